@@ -1,0 +1,4 @@
+pub mod Codes
+pub mod Wires
+pub mod Relays
+pub mod Sinks

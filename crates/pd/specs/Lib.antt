@@ -1,0 +1,4 @@
+pub mod Lengths
+pub mod Kinds
+pub mod Headers
+pub mod Messages
