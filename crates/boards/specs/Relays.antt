@@ -37,7 +37,7 @@ relay-meaning b = record {
   terminations = record {
     cc1 = pin-of (b .switches .cc1);
     cc2 = pin-of (b .switches .cc2);
-    rp = rp-of (b .switches .«rp_high») (b .switches .«rp_low»)
+    rp = rp-of (b .switches .«rp_high») (b .switches .«rp_low»);
   };
   vconn = vconn-of (b .switches .«vconn_cc1») (b .switches .«vconn_cc2»);
   path = path-of (b .switches .sink) (b .switches .source) (b .switches .raised);

@@ -189,7 +189,11 @@ pub impl FrontEnd for RelayBoard as RelayFrontEnd {
     }
 
     fn path(&self) -> Path {
-        match (self.switches.sink, self.switches.source, self.switches.raised) {
+        match (
+            self.switches.sink,
+            self.switches.source,
+            self.switches.raised,
+        ) {
             (true, _, _) => Path::Sink,
             (false, true, true) => Path::NondefaultSource,
             (false, true, false) => Path::DefaultSource,

@@ -12,7 +12,7 @@ returns-then-sinks c =
     record {
       known = omega arith;
       terminations = packed (c .args .terminations) _ _ _ 1 (c .code .ensures) (c .code-2 .ensures) (c .code-3 .ensures);
-      sinks = search needs
+      sinks = search needs;
     }
 
 pub returns-else-sinks : need.returns-else-sinks
@@ -22,5 +22,5 @@ returns-else-sinks c =
     record {
       known = omega arith;
       terminations = ap code-terminations bare ∙ packed (c .args .terminations) _ _ _ 0 (c .code .ensures) (c .code-2 .ensures) (c .code-3 .ensures);
-      sinks = search needs
+      sinks = search needs;
     }

@@ -1,0 +1,27 @@
+-- What an answer tells of the table of refusals behind it, and a table in two parts. Assumes nothing.
+use mathlib.Core.Bool.{true, false, cond}
+use mathlib.Core.List.{List, [], _∷_, _++_}
+use mathlib.Core.Path.{_≡_, refl}
+use Rattle.std.specs.declared.option.Option.{Option}
+use Rattle.std.specs.declared.option.Option.the-variants.{Some, None}
+use Rattle.std.specs.declared.result.Result.the-variants.{Ok, Err}
+use Rattle.transfer.specs.declared.refusal.Refusal.{Refusal}
+use Rattle.transfer.specs.Refusals.{Row, first-holding, refused-or}
+
+pub refused-by : {A : Type 0} (o : Option Refusal) (a : A) (e : Refusal) → Err e ≡ refused-or o a → o ≡ Some e
+refused-by (Some r) a e h = cc
+refused-by None a e h = cc
+
+pub not-refused : {A : Type 0} (o : Option Refusal) (a x : A) → Ok x ≡ refused-or o a → o ≡ None
+not-refused (Some r) a x h = cc
+not-refused None a x h = refl
+
+-- the first row that holds of a table in two parts
+pub first-left : (xs ys : List Row) (e : Refusal) → first-holding xs ≡ Some e → first-holding (xs ++ ys) ≡ Some e
+first-left [] ys e h = cc
+first-left (r ∷ xs) ys e h =
+    (elim (r .holds) as (λ b. cond b (Some (r .refusal)) (first-holding xs) ≡ Some e → cond b (Some (r .refusal)) (first-holding (xs ++ ys)) ≡ Some e)
+    [ true ↦ λ k. k | false ↦ λ k. first-left xs ys e k ]) h
+
+pub refuses : {A : Type 0} (o : Option Refusal) (a : A) (e : Refusal) → o ≡ Some e → Err e ≡ refused-or o a
+refuses o a e h = rw h
