@@ -34,7 +34,11 @@ fn take_script<F: FrontEnd>(rt: &LibcRuntime, port: &Port<F>) -> io::Result<()> 
     Ok(())
 }
 
-pub fn run<F: FrontEnd + Drop>(rt: &LibcRuntime, name: &str, mut front: F) -> io::Result<()> {
+pub(crate) fn run<F: FrontEnd + Drop>(
+    rt: &LibcRuntime,
+    name: &str,
+    mut front: F,
+) -> io::Result<()> {
     switch_by_hand(&mut front);
     let found = Outputs::of(&front);
     println!(rt, "{name}, as found: {found}")?;
@@ -42,7 +46,7 @@ pub fn run<F: FrontEnd + Drop>(rt: &LibcRuntime, name: &str, mut front: F) -> io
     let on = Outputs::of(port.front());
     let first = println!(
         rt,
-        "powered on as {VENDOR:04X}h, {PRODUCT:04X}h, {DEVICE:04X}h: {on}"
+        "powered on as vendor {VENDOR:04X}h, product {PRODUCT:04X}h, device {DEVICE:04X}h: {on}"
     );
     let script = take_script(rt, &port);
     let front = port.power_off();

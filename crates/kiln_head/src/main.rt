@@ -4,10 +4,10 @@ mod outputs;
 mod requests;
 mod script;
 
-use boards::RelayBoard;
-use boards::RelayFrontEnd;
-use boards::SinkBoard;
-use boards::SinkFrontEnd;
+use relay_board::RelayBoard;
+use relay_board::RelayFrontEnd;
+use sink_board::SinkBoard;
+use sink_board::SinkFrontEnd;
 use std::io;
 
 fn main(rt: LibcRuntime) -> io::Result<()> {

@@ -13,7 +13,7 @@ use front_end::Vconn;
 use std::fmt;
 
 #[derive(Clone, Copy)]
-pub struct Outputs {
+pub(crate) struct Outputs {
     terminations: Terminations,
     vconn: Vconn,
     path: Path,
@@ -21,7 +21,7 @@ pub struct Outputs {
 }
 
 impl Outputs {
-    pub fn of<F: FrontEnd>(front: &F) -> Outputs
+    pub(crate) fn of<F: FrontEnd>(front: &F) -> Outputs
         ensures { λ r. ⌜ shown r ≡ meaning (now (front .entry)) ⌝ }
     {
         Outputs {
@@ -33,7 +33,7 @@ impl Outputs {
     }
 
     /// Whether these are the outputs that a powered-off head has to leave.
-    pub fn are_safe(&self) -> bool
+    pub(crate) fn are_safe(&self) -> bool
         ensures { λ r. ⌜ Decides r (shown (now (self .entry)) ≡ safe) ⌝ }
     {
         match (self.vconn, self.path, self.line) {
@@ -78,7 +78,7 @@ fn path_word(path: Path) -> &'static str {
     }
 }
 
-pub impl fmt::Display for Outputs as OutputsDisplay {
+pub(crate) impl fmt::Display for Outputs as OutputsDisplay {
     fn fmt<W: fmt::Write>(&self, f: &mut fmt::Formatter<W>) -> fmt::Result {
         let cc1 = pin_word(self.terminations.cc1);
         let cc2 = pin_word(self.terminations.cc2);

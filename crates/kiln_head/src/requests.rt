@@ -57,14 +57,14 @@ fn reason(refusal: Refusal) -> &'static str {
 
 /// What a port takes a transfer for.
 #[derive(Clone, Copy)]
-pub enum Asked<'a> {
+pub(crate) enum Asked<'a> {
     Write(WriteRequest<'a>),
     Read(ReadRequest),
     Refused(Refusal),
 }
 
 impl<'a> Asked<'a> {
-    pub fn of<F: FrontEnd>(port: &Port<F>, transfer: Transfer<'a>) -> Asked<'a> {
+    pub(crate) fn of<F: FrontEnd>(port: &Port<F>, transfer: Transfer<'a>) -> Asked<'a> {
         match transfer {
             Transfer::Write(bytes) => match port.write_asks(bytes) {
                 Ok(request) => Asked::Write(request),
@@ -82,7 +82,7 @@ impl<'a> Asked<'a> {
     }
 }
 
-pub impl fmt::Display for Transfer<'_> as TransferDisplay {
+pub(crate) impl fmt::Display for Transfer<'_> as TransferDisplay {
     fn fmt<W: fmt::Write>(&self, f: &mut fmt::Formatter<W>) -> fmt::Result {
         match self {
             Transfer::Write(bytes) => {
@@ -101,7 +101,7 @@ pub impl fmt::Display for Transfer<'_> as TransferDisplay {
     }
 }
 
-pub impl fmt::Display for Asked<'_> as AskedDisplay {
+pub(crate) impl fmt::Display for Asked<'_> as AskedDisplay {
     fn fmt<W: fmt::Write>(&self, f: &mut fmt::Formatter<W>) -> fmt::Result {
         match self {
             Asked::Write(

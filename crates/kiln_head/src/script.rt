@@ -1,6 +1,6 @@
 //! A port manager's start-up script: what it writes and reads first, good and bad.
 #[derive(Clone, Copy)]
-pub enum Transfer<'a> {
+pub(crate) enum Transfer<'a> {
     Write(&'a [u8]),
     Read {
         register: u8,
@@ -9,7 +9,7 @@ pub enum Transfer<'a> {
     },
 }
 
-pub const START_UP: [Transfer<'static>; 18] = [
+pub(crate) const START_UP: [Transfer<'static>; 18] = [
     Transfer::Read {
         register: 0x24,
         wanted: 2,

@@ -1,7 +1,7 @@
 -- The kinds of what is sent and received, and their numbers. Assumes nothing.
-use mathlib.Core.Bool.{Bool, cond}
-use Prim.Native.Nat.{ℕ, _<_}
-use lib.Dec.{eqb, ltb}
+use mathlib.Core.Bool.{cond}
+use Prim.Native.Nat.{ℕ}
+use lib.Dec.{eqb}
 use Rattle.std.specs.declared.option.Option.{Option}
 use Rattle.std.specs.declared.option.Option.the-variants.{Some, None}
 use Rattle.pd.specs.declared.kind.Kind.{Kind}
@@ -26,7 +26,3 @@ kind-at n =
     (cond (eqb n 4) (Some SopDebugDoublePrime)
     (cond (eqb n 5) (Some HardReset)
     (cond (eqb n 6) (Some CableReset) None))))))
-
--- the numbers below 5 are messages, the others signals
-abbrev pub is-message : Kind → Bool
-is-message k = ltb (number-of k) 5

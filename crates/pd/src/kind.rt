@@ -1,7 +1,7 @@
 //! The kinds of what is sent and received, with the numbers that registers give them.
 //! 0 to 4 are messages, named by their start of packet; 5 and 6 are signals without bytes.
 ghost use mathlib.Core.Path.{_≡_};
-ghost use Rattle.pd.specs.Kinds.{number-of, kind-at, is-message};
+ghost use Rattle.pd.specs.Kinds.{number-of, kind-at};
 
 #[derive(Clone, Copy)]
 pub enum Kind {
@@ -33,15 +33,6 @@ impl Kind {
             5 => Some(Kind::HardReset),
             6 => Some(Kind::CableReset),
             _ => None,
-        }
-    }
-
-    pub fn is_message(self) -> bool
-        ensures { λ r. ⌜ r ≡ is-message self ⌝ }
-    {
-        match self {
-            Kind::HardReset | Kind::CableReset => false,
-            _ => true,
         }
     }
 }

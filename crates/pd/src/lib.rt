@@ -9,4 +9,3 @@ pub use header::Header;
 pub use kind::Kind;
 pub use message::LONGEST;
 pub use message::Message;
-pub use message::is_in_range;

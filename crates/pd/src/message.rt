@@ -8,7 +8,6 @@ ghost use Rattle.pd.specs.Lengths.{longest};
 mod methods;
 
 use crate::kind::Kind;
-pub use methods::is_in_range;
 
 /// The most bytes that a message has, its two header bytes among them.
 pub const LONGEST: usize = 30;

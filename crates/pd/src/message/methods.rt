@@ -14,7 +14,7 @@ use crate::message::Message;
 const SHORTEST: usize = 2;
 
 /// Whether a frame arrived with a type and a length that a frame can have.
-pub fn is_in_range(number: u8, bytes: &[u8]) -> bool
+fn is_in_range(number: u8, bytes: &[u8]) -> bool
     ensures { λ r. ⌜ r ≡ in-range number (now (bytes .entry)) ⌝ }
 {
     number <= Kind::SopDebugDoublePrime.number()

@@ -1,4 +1,0 @@
-pub mod Codes
-pub mod Wires
-pub mod Relays
-pub mod Sinks

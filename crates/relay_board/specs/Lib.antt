@@ -1,0 +1,3 @@
+pub mod Pins
+pub mod Lines
+pub mod Relays
