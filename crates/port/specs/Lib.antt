@@ -1,1 +1,3 @@
-pub mod Power
+pub mod View
+pub mod Writes
+pub mod Steps

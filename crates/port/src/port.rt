@@ -2,35 +2,31 @@
 //! Nothing hands the front end out to be altered, or replaces it.
 ghost use mathlib.Core.Path.{_≡_};
 ghost use Rattle.front_end.specs.Meaning.{safe};
-ghost use Rattle.transfer.specs.Decode.{all-asked, write-rows, read-rows, written};
-ghost use Rattle.transfer.specs.Refusals.{first-holding, refused-or};
-ghost use Rattle.port.specs.Power.{view, powered-on};
+ghost use Rattle.registers.specs.Status.{asserted};
+ghost use Rattle.port.specs.View.{view, powered-on};
+ghost use Rattle.port.specs.Steps.{concluded};
+
+mod writes;
+
 use front_end::FrontEnd;
 use front_end::Path;
 use front_end::RpValue;
 use front_end::Termination;
 use front_end::Terminations;
 use front_end::Vconn;
-use transfer::ReadRequest;
+use receiver::Receiver;
+use registers::INTERFACE_ERROR;
+use registers::Registers;
+use sender::Sender;
 use transfer::Refusal;
-use transfer::WriteRequest;
-use transfer::decode_read;
-use transfer::decode_write;
 
 /// Not `Drop`: a port ends by `power_off` alone.
 pub struct Port<F: FrontEnd> {
     front: F,
-    vendor: u16,
-    product: u16,
-    device: u16,
+    registers: Registers,
+    receiver: Receiver,
+    sender: Sender,
 }
-
-/// What ROLE_CONTROL says at power on: Rd on both pins, Rp value 0.
-const POWERED_ON: Terminations = Terminations {
-    cc1: Termination::Rd,
-    cc2: Termination::Rd,
-    rp: RpValue::Default,
-};
 
 const POWERED_OFF: Terminations = Terminations {
     cc1: Termination::Open,
@@ -43,15 +39,16 @@ impl<F: FrontEnd> Port<F> {
     pub fn power_on(mut front: F, vendor: u16, product: u16, device: u16) -> Port<F>
         ensures { λ r. ⌜ view meaning r ≡ powered-on vendor product device ⌝ }
     {
+        let registers = Registers::power_on(vendor, product, device);
         front.set_path(Path::Off);
         front.quiet();
         front.set_vconn(Vconn::Off);
-        front.set_terminations(POWERED_ON);
+        front.set_terminations(registers.terminations());
         Port {
             front,
-            vendor,
-            product,
-            device,
+            registers,
+            receiver: Receiver::new(),
+            sender: Sender::new(),
         }
     }
 
@@ -61,9 +58,9 @@ impl<F: FrontEnd> Port<F> {
     {
         let Port {
             mut front,
-            vendor: _,
-            product: _,
-            device: _,
+            registers: _,
+            receiver: _,
+            sender: _,
         } = self;
         front.set_path(Path::Off);
         front.quiet();
@@ -79,22 +76,30 @@ impl<F: FrontEnd> Port<F> {
         &self.front
     }
 
-    /// What a write transfer to this port asks for.
-    pub fn write_asks<'a>(&self, transfer: &'a [u8]) -> Result<WriteRequest<'a>, Refusal>
-        ensures { λ r. ⌜ all-asked r ≡ refused-or (first-holding (write-rows (now (transfer .entry)))) (written (now (transfer .entry))) ⌝ }
+    /// Whether Alert# is asserted.
+    pub fn alert_asserted(&self) -> bool
+        ensures { λ r. ⌜ r ≡ asserted (view meaning (now (self .entry)) .registers) ⌝ }
     {
-        decode_write(transfer)
+        self.registers.alert_asserted()
     }
 
-    /// What a read of `wanted` bytes asks of this port, for a reader with room for `room`.
-    pub fn read_asks(
-        &self,
-        register: u8,
-        wanted: usize,
-        room: usize,
-    ) -> Result<ReadRequest, Refusal>
-        ensures { λ r. ⌜ r ≡ refused-or (first-holding (read-rows register wanted room)) (record { register = register; wanted = wanted }) ⌝ }
+    /// Every call ends here: a refusal by the interface is a fault, and what changed raises alerts.
+    fn conclude<T>(
+        &mut self,
+        before: &Registers,
+        path: Path,
+        outcome: Result<T, Refusal>,
+    ) -> Result<T, Refusal>
+        ensures view { λ _. ⌜ view meaning (now (self .exit)) ≡ concluded (now (before .entry)) path outcome (view meaning (now (self .entry))) ⌝ }
+        ensures answer { λ r. ⌜ r ≡ outcome ⌝ }
     {
-        decode_read(register, wanted, room)
+        if let Err(refusal) = &outcome {
+            if refusal.is_interface_error() {
+                self.registers.raise_fault(INTERFACE_ERROR);
+            }
+        }
+        let path_now = self.front.path();
+        self.registers.settle(before, path, path_now);
+        outcome
     }
 }

@@ -2,6 +2,7 @@
 use mathlib.Core.Bool.{Bool, cond}
 use mathlib.Core.List.{List, [], _∷_}
 use Prim.Native.Nat.{ℕ}
+use lib.Dec.{leb}
 use Rattle.std.specs.declared.option.Option.{Option}
 use Rattle.std.specs.declared.option.Option.the-variants.{Some, None}
 use Rattle.std.specs.declared.result.Result.{Result}
@@ -25,6 +26,10 @@ refusal-number SendingUnderWay = 12
 refusal-number ReaderTooShort = 13
 refusal-number OutOfRange = 14
 refusal-number NotOnTheLine = 15
+
+-- numbers 1 to 12
+abbrev pub is-interface-error : Refusal → Bool
+is-interface-error r = leb (refusal-number r) 12
 
 -- a row of a table of refusals: which, and when
 pub record Row : Type 0 where

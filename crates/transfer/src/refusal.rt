@@ -1,6 +1,6 @@
 //! Why a call is refused. The numbers are what port managers and traces know refusals by.
 ghost use mathlib.Core.Path.{_≡_};
-ghost use Rattle.transfer.specs.Refusals.{refusal-number};
+ghost use Rattle.transfer.specs.Refusals.{refusal-number, is-interface-error};
 
 #[derive(Clone, Copy)]
 pub enum Refusal {
@@ -21,10 +21,19 @@ pub enum Refusal {
     NotOnTheLine = 15,
 }
 
+const LAST_INTERFACE_ERROR: u8 = 12;
+
 impl Refusal {
     pub fn number(self) -> u8
         ensures { λ r. ⌜ r ≡ refusal-number self ⌝ }
     {
         self as u8
+    }
+
+    /// Whether the refused transfer was an error at the bus interface, and so is a fault.
+    pub fn is_interface_error(self) -> bool
+        ensures { λ r. ⌜ r ≡ is-interface-error self ⌝ }
+    {
+        self.number() <= LAST_INTERFACE_ERROR
     }
 }

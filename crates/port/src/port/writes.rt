@@ -1,0 +1,125 @@
+//! A write transfer: decoded, judged, and only then acted on.
+ghost use mathlib.Core.Path.{_≡_};
+ghost use Rattle.pd.specs.Messages.{contents};
+ghost use Rattle.port.specs.View.{view};
+ghost use Rattle.port.specs.Steps.{obeyed, reset-by, on-line-after, discard-noted, transmitted, reacted-byte, reacted-word};
+ghost use Rattle.transfer.specs.Decode.{asked};
+ghost use Rattle.transfer.specs.Refusals.{first-holding, refused-or};
+ghost use Rattle.port.specs.Writes.{taking-rows};
+ghost use Rattle.registers.specs.Writes.{effect-of};
+use crate::port::Port;
+use front_end::FrontEnd;
+use pd::Message;
+use registers::Effect;
+use sender::End;
+use transfer::Refusal;
+use transfer::WriteRequest;
+use transfer::address;
+
+/// ALERT bits: a frame waits; a sending was discarded.
+const FRAME_WAITS: u16 = 0x0004;
+
+const DISCARDED: u16 = 0x0020;
+
+/// The type of a sending in TRANSMIT, and the Hard Reset's.
+const TYPE: u8 = 0x07;
+
+const HARD_RESET: u8 = 5;
+
+impl<F: FrontEnd> Port<F> {
+    /// Why a request that is well transferred is refused, or what it does beside what it stores.
+    fn judge(&self, request: WriteRequest<'_>) -> Result<Effect, Refusal>
+        ensures { λ r. ⌜ r ≡ refused-or (first-holding (taking-rows has (view meaning (now (self .entry))) (asked (request .entry)))) (effect-of (asked (request .entry)) (meaning (now (self .entry) .front) .path)) ⌝ }
+    {
+        match request {
+            WriteRequest::Append(bytes) => {
+                self.sender.room_for(bytes.len())?;
+                Ok(Effect::Nothing)
+            }
+            WriteRequest::Byte {
+                register: address::TRANSMIT,
+                value,
+                ..
+            } => {
+                self.sender.judge(value)?;
+                Ok(Effect::Nothing)
+            }
+            _ => registers::judge(request, F::capabilities(), self.front.path()),
+        }
+    }
+
+    fn obey(&mut self, effect: Effect)
+        ensures { λ _. ⌜ view meaning (now (self .exit)) ≡ obeyed has effect (view meaning (now (self .entry))) ⌝ }
+    {
+        self.registers.detect(effect);
+        match effect {
+            Effect::Switch(path) => self.front.set_path(path),
+            Effect::Arm => self.receiver.arm(),
+            Effect::Empty => self.sender.empty(),
+            Effect::Nothing | Effect::Detect(_) => {}
+        }
+    }
+
+    /// A Hard Reset to be sent drops what waits and what would be received.
+    fn reset_reception(&mut self, value: u8)
+        ensures { λ _. ⌜ view meaning (now (self .exit)) ≡ reset-by value (view meaning (now (self .entry))) ⌝ }
+    {
+        if value & TYPE == HARD_RESET {
+            self.receiver.reset();
+            self.registers.unmark(FRAME_WAITS);
+        }
+    }
+
+    fn put_on_line(&mut self, started: Option<Message>)
+        ensures { λ _. ⌜ view meaning (now (self .exit)) ≡ on-line-after (contents started) (view meaning (now (self .entry))) ⌝ }
+    {
+        if let Some(message) = started {
+            self.front.send(&message);
+        }
+    }
+
+    fn note_discard(&mut self, ended: Option<End>)
+        ensures { λ _. ⌜ view meaning (now (self .exit)) ≡ discard-noted ended (view meaning (now (self .entry))) ⌝ }
+    {
+        if let Some(_) = ended {
+            self.registers.mark(DISCARDED);
+        }
+    }
+
+    /// Accepts a sending; `held_back` while ALERT bit 2 or 3 is 1.
+    fn transmit(&mut self, value: u8, held_back: bool) -> Option<End>
+        ensures { λ r. ⌜ record { view = view meaning (now (self .exit)); ended = r } ≡ transmitted value «held_back» (view meaning (now (self .entry))) ⌝ }
+    {
+        let accepted = self.sender.transmit(value, held_back);
+        self.reset_reception(value);
+        self.put_on_line(accepted.started);
+        self.note_discard(accepted.ended);
+        accepted.ended
+    }
+
+    fn react_to_byte(&mut self, register: u8, value: u8, held_back: bool) -> Option<End>
+        ensures { λ r. ⌜ record { view = view meaning (now (self .exit)); ended = r } ≡ reacted-byte has register value «held_back» (view meaning (now (self .entry))) ⌝ }
+    {
+        match register {
+            address::TCPC_CONTROL | address::POWER_CONTROL => self.front
+                .set_vconn(self.registers.vconn()),
+            address::ROLE_CONTROL => self.front.set_terminations(self.registers.terminations()),
+            address::MESSAGE_HEADER_INFO => self.receiver.set_info(value),
+            address::RECEIVE_DETECT => self.receiver.set_detect(value),
+            address::TRANSMIT => return self.transmit(value, held_back),
+            _ => {}
+        }
+        None
+    }
+
+    fn react_to_word(&mut self, register: u8, value: u16)
+        ensures { λ _. ⌜ view meaning (now (self .exit)) ≡ reacted-word register value (view meaning (now (self .entry))) ⌝ }
+    {
+        if register == address::ALERT && value & FRAME_WAITS != 0 {
+            self.receiver.release();
+            if self.receiver.has_waiting() {
+                self.registers.mark(FRAME_WAITS);
+            }
+        }
+    }
+}
