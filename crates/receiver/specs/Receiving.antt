@@ -18,6 +18,7 @@ pub record Receiving : Type 0 where
 abbrev pub receiving : Receiver → Receiving
 receiving r = record { detect = r .detect; info = r .info; armed = r .«one_more»; frames = queued (r .waiting) }
 
+-- nothing is detected, disarmed, and no frame waits
 abbrev pub at-power-on : Receiving
 at-power-on = record { detect = 0x00; info = 0x02; armed = false; frames = [] }
 
@@ -34,6 +35,7 @@ with-armed armed v = record { detect = v .detect; info = v .info; armed = armed;
 abbrev pub with-frames : List Content → Receiving → Receiving
 with-frames frames v = record { detect = v .detect; info = v .info; armed = v .armed; frames = frames }
 
+-- whether a frame waits
 abbrev pub is-waiting : Receiving → Bool
 is-waiting v = not (eqb (length (v .frames)) 0)
 
@@ -50,5 +52,6 @@ pub record Keeping : Type 0 where
   pub after : Receiving
   pub waits : Bool
 
+-- the frame waits last, if there is room for it
 abbrev pub keeping : Content → Receiving → Keeping
 keeping frame v = record { after = with-frames (with-last frame (v .frames)) v; waits = has-room (v .frames) }

@@ -1,19 +1,13 @@
 -- What a sender holds, and how each call alters it. Assumes nothing.
 use mathlib.Core.Bool.{Bool, true, false, cond}
-use mathlib.Core.List.{List, [], _∷_, _++_}
-use Prim.Native.Nat.{ℕ, _+_}
-use lib.Dec.{eqb, ltb}
-use lib.ListN.{length, take}
+use mathlib.Core.List.{List, []}
+use Prim.Native.Nat.{ℕ}
+use lib.ListN.{take}
 use Rattle.std.specs.declared.option.Option.{Option}
 use Rattle.std.specs.declared.option.Option.the-variants.{Some, None}
-use Rattle.std.specs.declared.result.Result.{Result}
-use Rattle.pd.specs.declared.kind.Kind.{Kind}
 use Rattle.pd.specs.Kinds.{number-of}
-use Rattle.pd.specs.Lengths.{longest}
 use Rattle.pd.specs.Messages.{Content, content}
-use Rattle.transfer.specs.declared.refusal.Refusal.{Refusal}
-use Rattle.transfer.specs.declared.refusal.Refusal.the-variants.{BufferOverrun}
-use Rattle.transfer.specs.Refusals.{Row, _when_, first-holding, refused-or}
+use Rattle.sender.specs.Types.{is-hard-reset}
 use Rattle.sender.specs.declared.buffer.Buffer.{Buffer}
 use Rattle.sender.specs.declared.sender.End.{End}
 use Rattle.sender.specs.declared.sender.End.the-variants.{Discarded}
@@ -21,8 +15,7 @@ use Rattle.sender.specs.declared.sender.Sender.{Sender}
 use Rattle.sender.specs.declared.sender.State.{State}
 use Rattle.sender.specs.declared.sender.State.the-variants.{Idle, Starting, Waiting, Signalling}
 
--- what is under way: nothing; a message in a start or in its wait, with its retries left and its Ticks left;
--- or a reset with its Ticks left
+-- what is under way: a message in a start or in its wait, with its retries and Ticks left, or a reset with its Ticks left
 pub data Under : Type 0 where
   none : Under
   starting : Content → ℕ → ℕ → Under
@@ -34,9 +27,11 @@ pub record Sending : Type 0 where
   pub buffer : List ℕ
   pub under : Under
 
+-- the bytes that a buffer holds
 abbrev pub buffered : Buffer → List ℕ
 buffered b = take (b .len) (b .bytes)
 
+-- a sending by the span that it is in
 abbrev pub in-state : State → Content → ℕ → Under
 in-state Idle c retries = none
 in-state (Starting left) c retries = starting c retries left
@@ -46,6 +41,7 @@ in-state (Signalling left) c retries = signalling c left
 abbrev pub sending-of : Sender → Sending
 sending-of s = record { buffer = buffered (s .buffer); under = in-state (s .state) (content (s .message)) (s .retries) }
 
+-- an empty buffer, and nothing under way
 abbrev pub at-power-on : Sending
 at-power-on = record { buffer = []; under = none }
 
@@ -62,40 +58,19 @@ is-under-way (starting c retries left) = true
 is-under-way (waiting c retries left) = true
 is-under-way (signalling c left) = true
 
--- a reset is being signalled
+-- a Hard Reset or a Cable Reset is being signalled
 abbrev pub reset-under-way : Under → Bool
 reset-under-way none = false
 reset-under-way (starting c retries left) = false
 reset-under-way (waiting c retries left) = false
 reset-under-way (signalling c left) = true
 
-abbrev pub is-hard-reset : Kind → Bool
-is-hard-reset k = eqb (number-of k) 5
-
+-- a Hard Reset is being signalled
 abbrev pub hard-reset-under-way : Under → Bool
 hard-reset-under-way none = false
 hard-reset-under-way (starting c retries left) = false
 hard-reset-under-way (waiting c retries left) = false
-hard-reset-under-way (signalling c left) = is-hard-reset (c .kind)
-
--- so many bytes more than a buffer holds
-abbrev pub append-rows : ℕ → ℕ → List Row
-append-rows held more = (BufferOverrun when ltb longest (held + more)) ∷ []
-
--- as it was where a call is refused
-abbrev pub unless-refused : {A : Type 0} → Option Refusal → A → A → A
-unless-refused (Some r) before after = before
-unless-refused None before after = after
-
--- what a sender holds after it was given bytes, and whether they are refused
-pub record Appending : Type 0 where
-  pub after : Sending
-  pub answer : Result Unit Refusal
-
-abbrev pub appending : List ℕ → Sending → Appending
-appending more v =
-    let refused = first-holding (append-rows (length (v .buffer)) (length more)) in
-    record { after = unless-refused refused v (with-buffer (v .buffer ++ more) v); answer = refused-or refused tt }
+hard-reset-under-way (signalling c left) = is-hard-reset (number-of (c .kind))
 
 -- what a sender holds after a sending was ended from outside, and how it ended
 pub record Discarding : Type 0 where

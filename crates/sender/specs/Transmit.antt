@@ -2,7 +2,7 @@
 use mathlib.Core.Bool.{Bool, cond, not, _&&_, _||_}
 use mathlib.Core.List.{List, [], _∷_}
 use Prim.Native.Nat.{ℕ, _/_, _%_}
-use lib.Dec.{eqb, ltb, leb}
+use lib.Dec.{eqb, ltb}
 use lib.ListN.{length}
 use Rattle.std.specs.declared.option.Option.{Option}
 use Rattle.std.specs.declared.option.Option.the-variants.{Some, None}
@@ -12,8 +12,9 @@ use Rattle.pd.specs.Lengths.{shortest}
 use Rattle.pd.specs.Messages.{Content}
 use Rattle.transfer.specs.declared.refusal.Refusal.the-variants.{UnknownType, NothingToSend, SendingUnderWay}
 use Rattle.transfer.specs.Refusals.{Row, _when_}
-use Rattle.sender.specs.Sendings.{Sending, Under, none, starting, signalling, is-hard-reset, is-under-way, hard-reset-under-way}
+use Rattle.sender.specs.Sendings.{Sending, Under, none, starting, signalling, is-under-way, hard-reset-under-way}
 use Rattle.sender.specs.Spans.{start-span, signalling-span}
+use Rattle.sender.specs.Types.{is-message, is-hard-reset}
 use Rattle.sender.specs.declared.sender.End.{End}
 use Rattle.sender.specs.declared.sender.End.the-variants.{Discarded}
 
@@ -27,33 +28,30 @@ retries-of value = value / 16 % 4
 
 -- a Hard Reset waits for another only, the other types for any sending
 abbrev pub waits-for : ℕ → Under → Bool
-waits-for type under = cond (eqb type 5) (hard-reset-under-way under) (is-under-way under)
+waits-for type under = cond (is-hard-reset type) (hard-reset-under-way under) (is-under-way under)
 
+-- type, then bytes to send, then what is under way
 abbrev pub transmit-rows : Sending → ℕ → List Row
 transmit-rows v value =
     (UnknownType when eqb (type-of value) 7) ∷
-    (NothingToSend when leb (type-of value) 4 && ltb (length (v .buffer)) shortest) ∷
+    (NothingToSend when is-message (type-of value) && ltb (length (v .buffer)) shortest) ∷
     (SendingUnderWay when waits-for (type-of value) (v .under)) ∷ []
-
--- a message, and no reset
-abbrev pub is-message : Kind → Bool
-is-message k = leb (number-of k) 4
 
 -- what is accepted: a message has the buffered bytes, a reset has none
 abbrev pub accepted : Kind → List ℕ → Content
-accepted k buffer = record { kind = k; bytes = cond (is-message k) buffer [] }
+accepted k buffer = record { kind = k; bytes = cond (is-message (number-of k)) buffer [] }
 
 -- a sending with its first span before it
 abbrev pub begun : Content → ℕ → Under
-begun c retries = cond (is-message (c .kind)) (starting c retries start-span) (signalling c signalling-span)
+begun c retries = cond (is-message (number-of (c .kind))) (starting c retries start-span) (signalling c signalling-span)
 
 -- whether what is accepted is discarded at once; a Hard Reset never is
 abbrev pub is-discarded : Kind → Bool → Bool
-is-discarded k held = held && not (is-hard-reset k)
+is-discarded k held = held && not (is-hard-reset (number-of k))
 
 -- the transmit buffer: empty after a message, else as before
 abbrev pub buffer-after : Kind → List ℕ → List ℕ
-buffer-after k buffer = cond (is-message k) [] buffer
+buffer-after k buffer = cond (is-message (number-of k)) [] buffer
 
 -- the sending under way: what was accepted, unless it was discarded
 abbrev pub under-after : Kind → ℕ → Bool → List ℕ → Under
@@ -73,7 +71,7 @@ pub record Transmitting : Type 0 where
   pub started : Option Content
   pub ended : Option End
 
--- where no type has the number, nothing
+-- a type that there is not alters nothing
 abbrev pub accepting : Option Kind → ℕ → Bool → Sending → Transmitting
 accepting None retries held v = record { after = v; started = None; ended = None }
 accepting (Some k) retries held v = record {
@@ -82,5 +80,6 @@ accepting (Some k) retries held v = record {
   ended = ended-by k held (v .under);
 }
 
+-- what a taken write of a value leads to, held back or not
 abbrev pub transmitting : ℕ → Bool → Sending → Transmitting
 transmitting value held v = accepting (kind-at (type-of value)) (retries-of value) held v

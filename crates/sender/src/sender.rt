@@ -4,8 +4,11 @@ ghost use mathlib.Core.List.{[]};
 ghost use mathlib.Core.Path.{_≡_};
 ghost use lib.ListN.{length};
 ghost use Rattle.transfer.specs.Refusals.{first-holding, refused-or};
-ghost use Rattle.sender.specs.Sendings.{sending-of, at-power-on, with-buffer, appending, append-rows, discarding};
-ghost use Rattle.sender.specs.Sendings.{is-under-way, is-hard-reset, reset-under-way, hard-reset-under-way};
+ghost use Rattle.pd.specs.Kinds.{number-of};
+ghost use Rattle.sender.specs.Append.{append-rows, appending};
+ghost use Rattle.sender.specs.Sendings.{sending-of, at-power-on, with-buffer, discarding};
+ghost use Rattle.sender.specs.Sendings.{is-under-way, reset-under-way, hard-reset-under-way};
+ghost use Rattle.sender.specs.Types.{is-hard-reset};
 
 mod acceptance;
 
@@ -106,20 +109,14 @@ impl Sender {
     fn is_under_way(&self) -> bool
         ensures { λ r. ⌜ r ≡ is-under-way (sending-of (now (self .entry)) .under) ⌝ }
     {
-        match self.state {
-            State::Idle => false,
-            State::Starting { .. } | State::Waiting { .. } | State::Signalling { .. } => true,
-        }
+        !matches!(self.state, State::Idle)
     }
 
     /// Whether a reset is being signalled.
     pub fn is_resetting(&self) -> bool
         ensures { λ r. ⌜ r ≡ reset-under-way (sending-of (now (self .entry)) .under) ⌝ }
     {
-        match self.state {
-            State::Signalling { .. } => true,
-            State::Idle | State::Starting { .. } | State::Waiting { .. } => false,
-        }
+        matches!(self.state, State::Signalling { .. })
     }
 
     pub fn hard_reset_under_way(&self) -> bool
@@ -130,10 +127,7 @@ impl Sender {
 }
 
 fn is_hard_reset(kind: Kind) -> bool
-    ensures { λ r. ⌜ r ≡ is-hard-reset kind ⌝ }
+    ensures { λ r. ⌜ r ≡ is-hard-reset (number-of kind) ⌝ }
 {
-    match kind {
-        Kind::HardReset => true,
-        _ => false,
-    }
+    matches!(kind, Kind::HardReset)
 }

@@ -2,10 +2,12 @@
 //! Judging and acting are apart, so that a refused write alters nothing.
 ghost use mathlib.Core.Path.{_≡_};
 ghost use Rattle.std.specs.declared.option.Option.the-variants.{Some};
+ghost use Rattle.pd.specs.Kinds.{number-of};
 ghost use Rattle.pd.specs.Messages.{content, contents};
 ghost use Rattle.transfer.specs.Refusals.{first-holding, refused-or};
 ghost use Rattle.sender.specs.Sendings.{sending-of, with-buffer, with-under};
-ghost use Rattle.sender.specs.Transmit.{transmit-rows, transmitting, accepting, is-message, accepted, begun, buffer-after};
+ghost use Rattle.sender.specs.Types.{is-message};
+ghost use Rattle.sender.specs.Transmit.{transmit-rows, transmitting, accepting, accepted, begun, buffer-after};
 use crate::buffer::Buffer;
 use crate::fields::retries_of;
 use crate::fields::type_of;
@@ -28,12 +30,9 @@ const START_TICKS: u8 = 20;
 const SIGNALLING_TICKS: u8 = 50;
 
 fn is_message(kind: Kind) -> bool
-    ensures { λ r. ⌜ r ≡ is-message kind ⌝ }
+    ensures { λ r. ⌜ r ≡ is-message (number-of kind) ⌝ }
 {
-    match kind {
-        Kind::HardReset | Kind::CableReset => false,
-        _ => true,
-    }
+    !matches!(kind, Kind::HardReset | Kind::CableReset)
 }
 
 impl Sender {
