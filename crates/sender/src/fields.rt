@@ -9,7 +9,8 @@ const RETRIES_LOWEST_BIT: u8 = 4;
 
 const RETRIES_MASK: u8 = 0b11;
 
-pub(crate) fn type_of(value: u8) -> u8
+/// The type of sending that a value asks for.
+pub fn type_of(value: u8) -> u8
     ensures { λ r. ⌜ r ≡ type-of value ⌝ }
 {
     value & TYPE_MASK

@@ -4,6 +4,7 @@ mod buffer;
 mod fields;
 mod sender;
 
+pub use fields::type_of;
 pub use sender::Accepted;
 pub use sender::End;
 pub use sender::Sender;

@@ -2,16 +2,23 @@
 ghost use mathlib.Core.Path.{_≡_};
 ghost use Rattle.pd.specs.Messages.{contents};
 ghost use Rattle.port.specs.View.{view};
-ghost use Rattle.port.specs.Steps.{obeyed, reset-by, on-line-after, discard-noted, transmitted, reacted-byte, reacted-word};
-ghost use Rattle.transfer.specs.Decode.{asked};
+ghost use Rattle.port.specs.Steps.{obeyed, reset-by, on-line-after, discard-noted, without-end, reacted, acted};
+ghost use mathlib.Core.Bool.{false};
+ghost use Rattle.transfer.specs.Decode.{asked, byte, word};
 ghost use Rattle.transfer.specs.Refusals.{first-holding, refused-or};
 ghost use Rattle.port.specs.Writes.{taking-rows};
 ghost use Rattle.registers.specs.Writes.{effect-of};
+ghost use Rattle.registers.specs.declared.command.Effect.the-variants.{Nothing};
+ghost use Rattle.sender.specs.Append.{append-rows};
+ghost use Rattle.sender.specs.Transmit.{transmit-rows};
+ghost use lib.ListN.{length};
 use crate::port::Port;
 use front_end::FrontEnd;
+use pd::Kind;
 use pd::Message;
 use registers::Effect;
 use sender::End;
+use sender::type_of;
 use transfer::Refusal;
 use transfer::WriteRequest;
 use transfer::address;
@@ -22,28 +29,33 @@ const FRAME_WAITS: u16 = 0x0004;
 const DISCARDED: u16 = 0x0020;
 
 /// The type of a sending in TRANSMIT, and the Hard Reset's.
-const TYPE: u8 = 0x07;
-
-const HARD_RESET: u8 = 5;
 
 impl<F: FrontEnd> Port<F> {
+    fn judge_transmit(&self, value: u8) -> Result<Effect, Refusal>
+        ensures { λ r. ⌜ r ≡ refused-or (first-holding (transmit-rows (view meaning (now (self .entry)) .sending) value)) Nothing ⌝ }
+    {
+        self.sender.judge(value)?;
+        Ok(Effect::Nothing)
+    }
+
+    fn judge_append(&self, count: usize) -> Result<Effect, Refusal>
+        ensures { λ r. ⌜ r ≡ refused-or (first-holding (append-rows (length (view meaning (now (self .entry)) .sending .buffer)) count)) Nothing ⌝ }
+    {
+        self.sender.room_for(count)?;
+        Ok(Effect::Nothing)
+    }
+
     /// Why a request that is well transferred is refused, or what it does beside what it stores.
     fn judge(&self, request: WriteRequest<'_>) -> Result<Effect, Refusal>
         ensures { λ r. ⌜ r ≡ refused-or (first-holding (taking-rows has (view meaning (now (self .entry))) (asked (request .entry)))) (effect-of (asked (request .entry)) (meaning (now (self .entry) .front) .path)) ⌝ }
     {
         match request {
-            WriteRequest::Append(bytes) => {
-                self.sender.room_for(bytes.len())?;
-                Ok(Effect::Nothing)
-            }
+            WriteRequest::Append(bytes) => self.judge_append(bytes.len()),
             WriteRequest::Byte {
                 register: address::TRANSMIT,
                 value,
                 ..
-            } => {
-                self.sender.judge(value)?;
-                Ok(Effect::Nothing)
-            }
+            } => self.judge_transmit(value),
             _ => registers::judge(request, F::capabilities(), self.front.path()),
         }
     }
@@ -64,7 +76,7 @@ impl<F: FrontEnd> Port<F> {
     fn reset_reception(&mut self, value: u8)
         ensures { λ _. ⌜ view meaning (now (self .exit)) ≡ reset-by value (view meaning (now (self .entry))) ⌝ }
     {
-        if value & TYPE == HARD_RESET {
+        if type_of(value) == Kind::HardReset.number() {
             self.receiver.reset();
             self.registers.unmark(FRAME_WAITS);
         }
@@ -88,7 +100,7 @@ impl<F: FrontEnd> Port<F> {
 
     /// Accepts a sending; `held_back` while ALERT bit 2 or 3 is 1.
     fn transmit(&mut self, value: u8, held_back: bool) -> Option<End>
-        ensures { λ r. ⌜ record { view = view meaning (now (self .exit)); ended = r } ≡ transmitted value «held_back» (view meaning (now (self .entry))) ⌝ }
+        ensures { λ r. ⌜ record { view = view meaning (now (self .exit)); ended = r } ≡ reacted has (byte 0x50 value false) «held_back» (view meaning (now (self .entry))) ⌝ }
     {
         let accepted = self.sender.transmit(value, held_back);
         self.reset_reception(value);
@@ -98,7 +110,7 @@ impl<F: FrontEnd> Port<F> {
     }
 
     fn react_to_byte(&mut self, register: u8, value: u8, held_back: bool) -> Option<End>
-        ensures { λ r. ⌜ record { view = view meaning (now (self .exit)); ended = r } ≡ reacted-byte has register value «held_back» (view meaning (now (self .entry))) ⌝ }
+        ensures { λ r. ⌜ record { view = view meaning (now (self .exit)); ended = r } ≡ reacted has (byte register value false) «held_back» (view meaning (now (self .entry))) ⌝ }
     {
         match register {
             address::TCPC_CONTROL | address::POWER_CONTROL => self.front
@@ -112,8 +124,8 @@ impl<F: FrontEnd> Port<F> {
         None
     }
 
-    fn react_to_word(&mut self, register: u8, value: u16)
-        ensures { λ _. ⌜ view meaning (now (self .exit)) ≡ reacted-word register value (view meaning (now (self .entry))) ⌝ }
+    fn react_to_word(&mut self, register: u8, value: u16, held_back: bool)
+        ensures { λ _. ⌜ without-end (view meaning (now (self .exit))) ≡ reacted has (word register value) «held_back» (view meaning (now (self .entry))) ⌝ }
     {
         if register == address::ALERT && value & FRAME_WAITS != 0 {
             self.receiver.release();
@@ -121,5 +133,35 @@ impl<F: FrontEnd> Port<F> {
                 self.registers.mark(FRAME_WAITS);
             }
         }
+    }
+
+    /// What a taken request does beside the registers that it stores.
+    fn react(&mut self, request: WriteRequest<'_>, held_back: bool) -> Option<End>
+        ensures { λ r. ⌜ record { view = view meaning (now (self .exit)); ended = r } ≡ reacted has (asked (request .entry)) «held_back» (view meaning (now (self .entry))) ⌝ }
+    {
+        match request {
+            WriteRequest::Byte {
+                register,
+                value,
+                ..
+            } => self.react_to_byte(register, value, held_back),
+            WriteRequest::Word { register, value } => {
+                self.react_to_word(register, value, held_back);
+                None
+            }
+            WriteRequest::Append(bytes) => {
+                let _ = self.sender.append(bytes);
+                None
+            }
+        }
+    }
+
+    fn act(&mut self, request: WriteRequest<'_>, effect: Effect) -> Option<End>
+        ensures { λ r. ⌜ record { view = view meaning (now (self .exit)); ended = r } ≡ acted has (asked (request .entry)) effect (view meaning (now (self .entry))) ⌝ }
+    {
+        let held_back = self.registers.hold_back();
+        self.registers.store(request);
+        self.obey(effect);
+        self.react(request, held_back)
     }
 }
