@@ -24,40 +24,28 @@ use Rattle.registers.specs.declared.file.Registers.{Registers}
 use Rattle.sender.specs.Sendings.{with-buffer}
 use Rattle.sender.specs.Transmit.{type-of}
 use Rattle.sender.specs.declared.sender.End.{End}
-use Rattle.transfer.specs.Decode.{Asked}
-use Rattle.transfer.specs.Refusals.{is-interface-error}
+use Rattle.transfer.specs.Decode.{Asked, written}
+use Rattle.transfer.specs.Refusals.{first-holding}
 use Rattle.transfer.specs.declared.refusal.Refusal.{Refusal}
 use Rattle.port.specs.View.{View, with-registers, with-receiving, with-meaning}
-use Rattle.port.specs.Writes.{hard-resets, transmission, frames-after, alert-after, with-discard, line-after}
+use Rattle.port.specs.Outcomes.{Outcome, faulted-by, taken-with}
+use Rattle.port.specs.Writes.{arms, empties, told-path, told-vconn, hard-resets, transmission, frames-after, alert-after, with-discard, line-after, write-table, after-write, sent}
+use Rattle.port.specs.declared.answer.Answer.{Answer}
 
--- the fault and the alerts, at the end of every call
-abbrev pub faulted-by : Refusal → Registers → Registers
-faulted-by r s = cond (is-interface-error r) (faulted 1 s) s
+-- the fault and the alerts, at the end of every call, from the registers and the path before it
+abbrev pub settled-from : Registers → Path → View → View
+settled-from before p v = with-registers (settled before p (v .registers) (v .meaning .path)) v
 
 abbrev pub concluded : {A : Type 0} → Registers → Path → Result A Refusal → View → View
-concluded before p (Ok a) v = with-registers (settled before p (v .registers) (v .meaning .path)) v
-concluded before p (Err r) v = with-registers (settled before p (faulted-by r (v .registers)) (v .meaning .path)) v
+concluded before p (Ok a) v = settled-from before p v
+concluded before p (Err r) v = settled-from before p (faulted-by r v)
 
--- a path told to a front end
-abbrev pub told-path : Capabilities → Option Path → Path → Path
-told-path has None p = p
-told-path has (Some q) p = cond (has-path has q) q p
+-- a call before the fault and the alerts
+abbrev pub unsettled : {A : Type 0} → Option Refusal → View → A → View → Outcome A
+unsettled (Some r) after answer before = record { view = before; answer = Err r }
+unsettled None after answer before = record { view = after; answer = Ok answer }
 
--- RxOneMore and the transmit buffer after an effect
-abbrev pub arms : Effect → Bool → Bool
-arms Nothing armed = armed
-arms (Detect on) armed = armed
-arms (Switch p) armed = armed
-arms Arm armed = true
-arms Empty armed = armed
-
-abbrev pub empties : Effect → List ℕ → List ℕ
-empties Nothing buffer = buffer
-empties (Detect on) buffer = buffer
-empties (Switch p) buffer = buffer
-empties Arm buffer = buffer
-empties Empty buffer = []
-
+-- an effect obeyed
 abbrev pub obeyed : Capabilities → Effect → View → View
 obeyed has e v = record {
   registers = detecting e (v .registers);
@@ -91,28 +79,33 @@ on-line-after started v = with-meaning (with-line (line-after started (v .meanin
 abbrev pub discard-noted : Option End → View → View
 discard-noted ended v = with-registers (with-alert (with-discard ended (v .registers .alert)) (v .registers)) v
 
+-- what a taken request does beside the registers that it stores
 abbrev pub reacted : Capabilities → Asked → Bool → View → Ended
 reacted has w held v =
-    let sent = transmission w held (v .sending) in
+    let t = transmission w held (v .sending) in
     record {
       view = record {
-        registers = with-alert (alert-after w (sent .ended) (v .receiving .frames) (v .registers .alert)) (v .registers);
+        registers = with-alert (alert-after w (t .ended) (v .receiving .frames) (v .registers .alert)) (v .registers);
         receiving = record {
           detect = cond (byte-at 0x2F w) (value w) (cond (hard-resets w) 0 (v .receiving .detect));
           info = cond (byte-at 0x2E w) (value w) (v .receiving .info);
           armed = cond (hard-resets w) false (v .receiving .armed);
           frames = frames-after w (v .receiving .frames);
         };
-        sending = sent .after;
+        sending = t .after;
         meaning = record {
           terminations = cond (byte-at 0x1A w) (terminations-of (v .registers .«role_control»)) (v .meaning .terminations);
-          vconn = cond (byte-at 0x19 w || byte-at 0x1C w) (cond (has-vconn has (vconn-of (v .registers))) (vconn-of (v .registers)) (v .meaning .vconn)) (v .meaning .vconn);
+          vconn = cond (byte-at 0x19 w || byte-at 0x1C w) (told-vconn has (vconn-of (v .registers)) (v .meaning .vconn)) (v .meaning .vconn);
           path = v .meaning .path;
-          line = line-after (sent .started) (v .meaning .line);
+          line = line-after (t .started) (v .meaning .line);
         };
       };
-      ended = sent .ended;
+      ended = t .ended;
     }
 
 abbrev pub acted : Capabilities → Asked → Effect → View → Ended
 acted has w e v = reacted has w (holds-back (v .registers)) (obeyed has e (with-registers (stored w (v .registers)) v))
+
+-- a write before the fault and the alerts
+abbrev pub write-unsettled : Capabilities → View → List ℕ → Outcome Answer
+write-unsettled has v t = unsettled (first-holding (write-table has v t)) (after-write has v (written t)) (taken-with (sent v (written t) .ended)) v

@@ -7,21 +7,31 @@ use lib.ListN.{length, drop}
 use lib.Bits.{bitOr}
 use Rattle.std.specs.declared.option.Option.{Option}
 use Rattle.std.specs.declared.option.Option.the-variants.{Some, None}
-use Rattle.front_end.specs.Meaning.{Carried, started}
+use Rattle.front_end.specs.Meaning.{Carried, started, has-path, has-vconn}
 use Rattle.front_end.specs.declared.parts.Capabilities.{Capabilities}
+use Rattle.front_end.specs.declared.parts.Path.{Path}
+use Rattle.front_end.specs.declared.parts.Vconn.{Vconn}
 use Rattle.pd.specs.Lengths.{shortest, longest}
 use Rattle.pd.specs.Messages.{Content}
+use Rattle.registers.specs.Alerts.{holds-back}
 use Rattle.registers.specs.Bits.{any-of, word-without}
-use Rattle.registers.specs.Commands.{commands, among, unmet}
-use Rattle.registers.specs.Writes.{byte-at, word-at, value, lacking}
+use Rattle.registers.specs.Commands.{commands, among, unmet, switches}
+use Rattle.registers.specs.File.{with-alert}
+use Rattle.registers.specs.Status.{terminations-of, vconn-of}
+use Rattle.registers.specs.Writes.{byte-at, word-at, value, lacking, stored, detecting, effect-of}
+use Rattle.registers.specs.declared.command.Effect.{Effect}
+use Rattle.registers.specs.declared.command.Effect.the-variants.{Nothing, Detect, Switch, Arm, Empty}
+use Rattle.registers.specs.declared.file.Registers.{Registers}
 use Rattle.sender.specs.Append.{appending}
 use Rattle.sender.specs.Sendings.{Sending}
 use Rattle.sender.specs.Transmit.{Transmitting, transmitting, type-of, waits-for}
 use Rattle.sender.specs.declared.sender.End.{End}
-use Rattle.transfer.specs.Decode.{Asked, byte, word, append}
-use Rattle.transfer.specs.Refusals.{Row, _when_}
+use Rattle.transfer.specs.Decode.{Asked, byte, word, append, write-rows, written}
+use Rattle.transfer.specs.Refusals.{Row, _when_, first-holding}
 use Rattle.transfer.specs.declared.refusal.Refusal.the-variants.{BufferOverrun, UnknownCommand, UnknownType, LacksCapability, NeedNotMet, NothingToSend, SendingUnderWay}
+use Rattle.port.specs.Outcomes.{Outcome, outcome, taken-with}
 use Rattle.port.specs.View.{View}
+use Rattle.port.specs.declared.answer.Answer.{Answer}
 
 -- bytes for the transmit buffer that it cannot hold
 abbrev pub overruns : List ℕ → Asked → Bool
@@ -76,3 +86,64 @@ alert-after w ended frames alert =
 abbrev pub line-after : Option Content → Carried → Carried
 line-after None line = line
 line-after (Some c) line = started c
+
+-- RxOneMore: armed by AAh, disarmed by a Hard Reset
+abbrev pub arms : Effect → Bool → Bool
+arms Nothing armed = armed
+arms (Detect on) armed = armed
+arms (Switch p) armed = armed
+arms Arm armed = true
+arms Empty armed = armed
+
+-- the transmit buffer: emptied by DDh
+abbrev pub empties : Effect → List ℕ → List ℕ
+empties Nothing buffer = buffer
+empties (Detect on) buffer = buffer
+empties (Switch p) buffer = buffer
+empties Arm buffer = buffer
+empties Empty buffer = []
+
+-- the path told to the front end; one that it lacks leaves it as it was
+abbrev pub told-path : Capabilities → Option Path → Path → Path
+told-path has None p = p
+told-path has (Some q) p = cond (has-path has q) q p
+
+-- VCONN told to the front end; one that it lacks leaves it as it was
+abbrev pub told-vconn : Capabilities → Vconn → Vconn → Vconn
+told-vconn has x vconn = cond (has-vconn has x) x vconn
+
+-- the register file after a taken write, but for ALERT bits of frames and sendings
+abbrev pub registers-after : View → Asked → Registers
+registers-after v w = detecting (effect-of w (v .meaning .path)) (stored w (v .registers))
+
+-- the transmission of a taken write
+abbrev pub sent : View → Asked → Transmitting
+sent v w =
+    transmission w (holds-back (v .registers))
+    (record { buffer = empties (effect-of w (v .meaning .path)) (v .sending .buffer); under = v .sending .under })
+
+-- all that a port holds after a taken write, each thing by its own rule; ALERT bits 0, 1 and 9 rise after it
+abbrev pub after-write : Capabilities → View → Asked → View
+after-write has v w = record {
+  registers = with-alert (alert-after w (sent v w .ended) (v .receiving .frames) (registers-after v w .alert)) (registers-after v w);
+  receiving = record {
+    detect = cond (byte-at 0x2F w) (value w) (cond (hard-resets w) 0 (v .receiving .detect));
+    info = cond (byte-at 0x2E w) (value w) (v .receiving .info);
+    armed = cond (hard-resets w) false (arms (effect-of w (v .meaning .path)) (v .receiving .armed));
+    frames = frames-after w (v .receiving .frames);
+  };
+  sending = sent v w .after;
+  meaning = record {
+    terminations = cond (byte-at 0x1A w) (terminations-of (registers-after v w .«role_control»)) (v .meaning .terminations);
+    vconn = cond (byte-at 0x19 w || byte-at 0x1C w) (told-vconn has (vconn-of (registers-after v w)) (v .meaning .vconn)) (v .meaning .vconn);
+    path = told-path has (switches (effect-of w (v .meaning .path))) (v .meaning .path);
+    line = line-after (sent v w .started) (v .meaning .line);
+  };
+}
+
+-- the whole table of a write's refusals: its form, then its request
+abbrev pub write-table : Capabilities → View → List ℕ → List Row
+write-table has v t = write-rows t ++ taking-rows has v (written t)
+
+abbrev pub write-outcome : Capabilities → View → List ℕ → Outcome Answer
+write-outcome has v t = outcome (first-holding (write-table has v t)) (after-write has v (written t)) (taken-with (sent v (written t) .ended)) v

@@ -1,5 +1,7 @@
 //! What a port is told by the head, and what it answers.
 //! Reports carry raw numbers: judging them is the port's.
+ghost use mathlib.Core.Path.{_≡_};
+ghost use Rattle.port.specs.Outcomes.{taken-with};
 use sender::End;
 
 #[derive(Clone, Copy)]
@@ -16,6 +18,18 @@ pub struct Answer {
     pub ended: Option<End>,
     /// The GoodCRC's two bytes, if a frame was acknowledged.
     pub good_crc: Option<(u8, u8)>,
+}
+
+impl Answer {
+    pub(crate) fn taken(ended: Option<End>) -> Answer
+        ensures { λ r. ⌜ r ≡ taken-with ended ⌝ }
+    {
+        Answer {
+            disposition: Disposition::Taken,
+            ended,
+            good_crc: None,
+        }
+    }
 }
 
 /// What happened at the connector.

@@ -25,3 +25,13 @@ first-left (r ∷ xs) ys e h =
 
 pub refuses : {A : Type 0} (o : Option Refusal) (a : A) (e : Refusal) → o ≡ Some e → Err e ≡ refused-or o a
 refuses o a e h = rw h
+
+pub answered : {A : Type 0} (o : Option Refusal) (a x : A) → Ok x ≡ refused-or o a → x ≡ a
+answered (Some r) a x h = cc
+answered None a x h = cc
+
+pub first-right : (xs ys : List Row) → first-holding xs ≡ None → first-holding (xs ++ ys) ≡ first-holding ys
+first-right [] ys h = refl
+first-right (r ∷ xs) ys h =
+    (elim (r .holds) as (λ b. cond b (Some (r .refusal)) (first-holding xs) ≡ None → cond b (Some (r .refusal)) (first-holding (xs ++ ys)) ≡ first-holding ys)
+    [ true ↦ λ k. cc | false ↦ λ k. first-right xs ys k ]) h

@@ -2,16 +2,18 @@
 ghost use mathlib.Core.Path.{_≡_};
 ghost use Rattle.pd.specs.Messages.{contents};
 ghost use Rattle.port.specs.View.{view};
-ghost use Rattle.port.specs.Steps.{obeyed, reset-by, on-line-after, discard-noted, without-end, reacted, acted};
+ghost use Rattle.port.specs.Steps.{obeyed, reset-by, on-line-after, discard-noted, without-end, reacted, acted, write-unsettled};
 ghost use mathlib.Core.Bool.{false};
 ghost use Rattle.transfer.specs.Decode.{asked, byte, word};
 ghost use Rattle.transfer.specs.Refusals.{first-holding, refused-or};
-ghost use Rattle.port.specs.Writes.{taking-rows};
+ghost use Rattle.port.specs.Outcomes.{Only-faulted};
+ghost use Rattle.port.specs.Writes.{taking-rows, write-outcome};
 ghost use Rattle.registers.specs.Writes.{effect-of};
 ghost use Rattle.registers.specs.declared.command.Effect.the-variants.{Nothing};
 ghost use Rattle.sender.specs.Append.{append-rows};
 ghost use Rattle.sender.specs.Transmit.{transmit-rows};
 ghost use lib.ListN.{length};
+use crate::answer::Answer;
 use crate::port::Port;
 use front_end::FrontEnd;
 use pd::Kind;
@@ -22,6 +24,7 @@ use sender::type_of;
 use transfer::Refusal;
 use transfer::WriteRequest;
 use transfer::address;
+use transfer::decode_write;
 
 /// ALERT bits: a frame waits; a sending was discarded.
 const FRAME_WAITS: u16 = 0x0004;
@@ -163,5 +166,26 @@ impl<F: FrontEnd> Port<F> {
         self.registers.store(request);
         self.obey(effect);
         self.react(request, held_back)
+    }
+
+    /// Takes a write, or refuses it and leaves all as it was.
+    fn take_write(&mut self, transfer: &[u8]) -> Result<Answer, Refusal>
+        ensures { λ r. ⌜ record { view = view meaning (now (self .exit)); answer = r } ≡ write-unsettled has (view meaning (now (self .entry))) (now (transfer .entry)) ⌝ }
+    {
+        let request = decode_write(transfer)?;
+        let effect = self.judge(request)?;
+        let ended = self.act(request, effect);
+        Ok(Answer::taken(ended))
+    }
+
+    /// A write transfer of any bytes.
+    pub fn write(&mut self, transfer: &[u8]) -> Result<Answer, Refusal>
+        ensures outcome { λ r. ⌜ record { view = view meaning (now (self .exit)); answer = r } ≡ write-outcome has (view meaning (now (self .entry))) (now (transfer .entry)) ⌝ }
+        ensures refused_alters_the_fault_alone { λ r. ⌜ Only-faulted r (view meaning (now (self .entry))) (view meaning (now (self .exit))) ⌝ }
+    {
+        let before = self.registers;
+        let path = self.front.path();
+        let outcome = self.take_write(transfer);
+        self.conclude(&before, path, outcome)
     }
 }
