@@ -1,2 +1,3 @@
 pub mod Chain
 pub mod Quiet
+pub mod Reading

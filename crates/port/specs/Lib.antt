@@ -2,3 +2,4 @@ pub mod View
 pub mod Outcomes
 pub mod Writes
 pub mod Steps
+pub mod Reads

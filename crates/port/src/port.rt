@@ -6,6 +6,7 @@ ghost use Rattle.registers.specs.Status.{asserted};
 ghost use Rattle.port.specs.View.{view, powered-on};
 ghost use Rattle.port.specs.Steps.{concluded};
 
+mod reads;
 mod writes;
 
 use front_end::FrontEnd;

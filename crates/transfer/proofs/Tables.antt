@@ -1,5 +1,5 @@
 -- What an answer tells of the table of refusals behind it, and a table in two parts. Assumes nothing.
-use mathlib.Core.Bool.{true, false, cond}
+use mathlib.Core.Bool.{Bool, true, false, not, cond}
 use mathlib.Core.List.{List, [], _∷_, _++_}
 use mathlib.Core.Path.{_≡_, refl}
 use Rattle.std.specs.declared.option.Option.{Option}
@@ -35,3 +35,16 @@ first-right [] ys h = refl
 first-right (r ∷ xs) ys h =
     (elim (r .holds) as (λ b. cond b (Some (r .refusal)) (first-holding xs) ≡ None → cond b (Some (r .refusal)) (first-holding (xs ++ ys)) ≡ first-holding ys)
     [ true ↦ λ k. cc | false ↦ λ k. first-right xs ys k ]) h
+
+-- where no row holds
+pub none-here : (r : Row) (xs : List Row) → first-holding (r ∷ xs) ≡ None → r .holds ≡ false
+none-here r xs h =
+    (elim (r .holds) as (λ b. cond b (Some (r .refusal)) (first-holding xs) ≡ None → b ≡ false) [ true ↦ λ k. cc | false ↦ λ k. refl ]) h
+
+pub none-after : (r : Row) (xs : List Row) → first-holding (r ∷ xs) ≡ None → first-holding xs ≡ None
+none-after r xs h =
+    (elim (r .holds) as (λ b. cond b (Some (r .refusal)) (first-holding xs) ≡ None → first-holding xs ≡ None) [ true ↦ λ k. cc | false ↦ λ k. k ]) h
+
+pub not-false : (b : Bool) → not b ≡ false → b ≡ true
+not-false true h = refl
+not-false false h = cc

@@ -97,6 +97,17 @@ taken-apart-at a Counted = eqb a 0x51
 abbrev pub taken-apart : ℕ → Register → Bool
 taken-apart a r = not (r .access .write) || taken-apart-at a (r .width)
 
+-- how much is read: up to 32 bytes at 30h, a byte or a word elsewhere
+abbrev pub read-at : ℕ → Width → Bool
+read-at a Byte = true
+read-at a Word = true
+read-at a UpTo32 = eqb a 0x30
+read-at a Counted = false
+
+-- and no other register may be read
+abbrev pub short-or-buffer : ℕ → Register → Bool
+short-or-buffer a r = not (r .access .read) || read-at a (r .width)
+
 abbrev pub allows : Access → Direction → Bool
 allows access Read = access .read
 allows access Write = access .write

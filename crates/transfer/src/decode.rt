@@ -1,6 +1,10 @@
 //! A transfer taken apart: into a request, or the first refusal that holds.
 //! The list decides; the patterns only say where the bytes are.
+ghost use mathlib.Core.Bool.{true, false};
 ghost use mathlib.Core.Path.{_≡_};
+ghost use Prim.Native.Nat.{_≤_};
+ghost use lib.Dec.{eqb};
+ghost use Rattle.std.specs.Results.{isOk};
 ghost use Rattle.transfer.specs.Refusals.{first-holding, refused-or};
 ghost use Rattle.transfer.specs.Decode.{write-rows, read-rows, written, asked, all-asked};
 use crate::list::Direction;
@@ -60,7 +64,8 @@ pub fn decode_write(transfer: &[u8]) -> Result<WriteRequest<'_>, Refusal>
 
 /// Of `wanted` bytes at `register`, for a reader whose buffer has room for `room`.
 pub fn decode_read(register: u8, wanted: usize, room: usize) -> Result<ReadRequest, Refusal>
-    ensures { λ r. ⌜ r ≡ refused-or (first-holding (read-rows register wanted room)) (record { register = register; wanted = wanted }) ⌝ }
+    ensures judged { λ r. ⌜ r ≡ refused-or (first-holding (read-rows register wanted room)) (record { register = register; wanted = wanted }) ⌝ }
+    ensures at_most_a_word_elsewhere { λ r. ⌜ (isOk r ≡ true → eqb register 0x30 ≡ false → wanted ≤ 2) ⌝ }
 {
     if room < wanted {
         return Err(Refusal::ReaderTooShort);
