@@ -1,3 +1,4 @@
 pub mod Chain
 pub mod Quiet
 pub mod Reading
+pub mod Reporting

@@ -3,3 +3,4 @@ pub mod Outcomes
 pub mod Writes
 pub mod Steps
 pub mod Reads
+pub mod Reports

@@ -53,3 +53,8 @@ interface-fault v =
 abbrev pub Only-faulted : {A : Type 0} → Result A Refusal → View → View → Type 0
 Only-faulted (Ok a) before after = Unit {0}
 Only-faulted (Err r) before after = after ≡ cond (is-interface-error r) (interface-fault before) before
+
+-- a refused report alters nothing
+abbrev pub Unaltered-if-refused : {A : Type 0} → Result A Refusal → View → View → Type 0
+Unaltered-if-refused (Ok a) before after = Unit {0}
+Unaltered-if-refused (Err r) before after = after ≡ before

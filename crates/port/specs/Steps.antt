@@ -11,6 +11,8 @@ use Rattle.std.specs.declared.result.Result.the-variants.{Ok, Err}
 use Rattle.front_end.specs.Meaning.{has-path, has-vconn, with-line}
 use Rattle.front_end.specs.declared.parts.Capabilities.{Capabilities}
 use Rattle.front_end.specs.declared.parts.Path.{Path}
+use Rattle.front_end.specs.declared.parts.Path.the-variants as path
+use Rattle.front_end.specs.declared.parts.Vconn.the-variants as vconn
 use Rattle.pd.specs.Messages.{Content}
 use Rattle.receiver.specs.Receiving.{with-armed, after-hard-reset}
 use Rattle.registers.specs.Alerts.{faulted, unmarked, settled, holds-back}
@@ -21,6 +23,8 @@ use Rattle.registers.specs.Writes.{detecting, stored, byte-at, value}
 use Rattle.registers.specs.declared.command.Effect.{Effect}
 use Rattle.registers.specs.declared.command.Effect.the-variants.{Nothing, Detect, Switch, Arm, Empty}
 use Rattle.registers.specs.declared.file.Registers.{Registers}
+use Rattle.registers.specs.declared.reports.Trip.{Trip}
+use Rattle.registers.specs.declared.reports.Trip.the-variants.{Vconn, Vbus}
 use Rattle.sender.specs.Sendings.{with-buffer}
 use Rattle.sender.specs.Transmit.{type-of}
 use Rattle.sender.specs.declared.sender.End.{End}
@@ -109,3 +113,8 @@ acted has w e v = reacted has w (holds-back (v .registers)) (obeyed has e (with-
 -- a write before the fault and the alerts
 abbrev pub write-unsettled : Capabilities → View → List ℕ → Outcome Answer
 write-unsettled has v t = unsettled (first-holding (write-table has v t)) (after-write has v (written t)) (taken-with (sent v (written t) .ended)) v
+
+-- what a fault turns off
+abbrev pub tripped : Trip → View → View
+tripped Vconn v = with-meaning (record { terminations = v .meaning .terminations; vconn = vconn.Off; path = v .meaning .path; line = v .meaning .line }) v
+tripped Vbus v = with-meaning (record { terminations = v .meaning .terminations; vconn = v .meaning .vconn; path = path.Off; line = v .meaning .line }) v

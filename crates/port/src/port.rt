@@ -7,6 +7,7 @@ ghost use Rattle.port.specs.View.{view, powered-on};
 ghost use Rattle.port.specs.Steps.{concluded};
 
 mod reads;
+mod reports;
 mod writes;
 
 use front_end::FrontEnd;

@@ -12,4 +12,5 @@ pub use alerts::INTERFACE_ERROR;
 pub use command::Effect;
 pub use file::Level;
 pub use file::Registers;
+pub use reports::Trip;
 pub use writes::judge;
