@@ -1,7 +1,7 @@
-//! One head's day in short: found as it was left, powered on, asked by its port manager, powered off.
+//! One head after the other: found as it was left, powered on, configured by its port manager, powered off.
+mod calls;
 mod head;
 mod outputs;
-mod requests;
 mod script;
 
 use relay_board::RelayBoard;

@@ -8,15 +8,15 @@ use port::Port;
 /// COMMAND 33h: start VBUS detection.
 const DETECT_VBUS: [u8; 2] = [0x23, 0x33];
 
-/// Powered on, asked, powered off, and the same again with the front end that came back.
+/// Powered on, written to, powered off, and the same again with the front end that came back.
 pub fn power_cycle<F: FrontEnd>(front: F) -> F
     ensures { λ r. ⌜ meaning r ≡ safe ⌝ }
 {
-    let port = Port::power_on(front, 1, 2, 3);
-    let _ = port.write_asks(&DETECT_VBUS);
+    let mut port = Port::power_on(front, 1, 2, 3);
+    let _ = port.write(&DETECT_VBUS);
     let front = port.power_off();
-    let port = Port::power_on(front, 1, 2, 3);
-    let _ = port.write_asks(&DETECT_VBUS);
+    let mut port = Port::power_on(front, 1, 2, 3);
+    let _ = port.write(&DETECT_VBUS);
     port.power_off()
 }
 
