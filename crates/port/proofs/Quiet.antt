@@ -61,6 +61,7 @@ quiet v =
 
 -- what a refusal alters
 alters : (v : View) (b : Bool) → settled-since v (cond b (with-registers (faulted 1 (v .registers)) v) v) ≡ cond b (interface-fault v) v
+unfolding interface-fault
 alters v true = let s = v .registers in ap (λ a. with-registers (with-alert (bitOr (s .alert) a) (faulted 1 s)) v) (only-nine 1 s (v .meaning .path))
 alters v false = quiet v
 

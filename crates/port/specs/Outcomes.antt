@@ -41,7 +41,7 @@ outcome (Some r) after answer before = record { view = settled-since before (fau
 outcome None after answer before = record { view = settled-since before after; answer = Ok answer }
 
 -- FAULT_STATUS bit 0 set, and ALERT bit 9 where an unmasked bit rose by that; all else as before
-abbrev pub interface-fault : View → View
+unfoldable pub interface-fault : View → View
 interface-fault v =
     with-registers
     (with-alert

@@ -38,10 +38,10 @@ abbrev pub read-refusal : ℕ → ℕ → List ℕ → Option Refusal
 read-refusal a wanted buffer = first-holding (read-rows a wanted (length buffer))
 
 -- a read alters the port by its refusal alone, and answers how many bytes it wrote
-abbrev pub read-outcome : View → ℕ → ℕ → List ℕ → Outcome ℕ
+unfoldable pub read-outcome : View → ℕ → ℕ → List ℕ → Outcome ℕ
 read-outcome v a wanted buffer = outcome (read-refusal a wanted buffer) v wanted v
 
-abbrev pub buffer-after : Capabilities → View → ℕ → ℕ → List ℕ → List ℕ
+unfoldable pub buffer-after : Capabilities → View → ℕ → ℕ → List ℕ → List ℕ
 buffer-after has v a wanted buffer = filled (read-refusal a wanted buffer) (shown has v a wanted) wanted buffer
 
 -- a taken read: the port as it was, the bytes wanted at the front of the buffer, the rest kept

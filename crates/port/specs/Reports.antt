@@ -42,5 +42,5 @@ after-report v (CcLevels cc1 cc2) = with-registers (with-levels (level-of cc1) (
 after-report v (Vbus n) = with-registers (with-vbus (eqb n 1) (v .registers)) v
 after-report v (Fault n) = after-fault n v
 
-abbrev pub report-outcome : View → Report → Outcome Answer
+unfoldable pub report-outcome : View → Report → Outcome Answer
 report-outcome v r = outcome (report-refusal v r) (after-report v r) (taken-with None) v

@@ -145,5 +145,5 @@ after-write has v w = record {
 abbrev pub write-table : Capabilities → View → List ℕ → List Row
 write-table has v t = write-rows t ++ taking-rows has v (written t)
 
-abbrev pub write-outcome : Capabilities → View → List ℕ → Outcome Answer
+unfoldable pub write-outcome : Capabilities → View → List ℕ → Outcome Answer
 write-outcome has v t = outcome (first-holding (write-table has v t)) (after-write has v (written t)) (taken-with (sent v (written t) .ended)) v

@@ -7,7 +7,7 @@ ghost use Rattle.std.specs.Results.{isErr};
 ghost use Rattle.std.specs.declared.result.Result.the-variants.{Ok};
 ghost use Rattle.transfer.specs.Refusals.{refused-or};
 ghost use Rattle.port.specs.Outcomes.{Only-faulted};
-ghost use Rattle.port.specs.Reads.{value-of, low-first, read-refusal, read-outcome, buffer-after, Shown};
+ghost use Rattle.port.specs.Reads.{value-of, shown, filled, read-refusal, read-outcome, buffer-after, Shown};
 ghost use Rattle.port.specs.View.{view};
 use crate::port::Port;
 use front_end::FrontEnd;
@@ -30,7 +30,7 @@ impl<F: FrontEnd> Port<F> {
     /// Shows the bytes wanted, or refuses and leaves the buffer.
     fn show(&self, register: u8, wanted: usize, buffer: &mut [u8]) -> Result<usize, Refusal>
         ensures answer { λ r. ⌜ r ≡ refused-or (read-refusal register wanted (now (buffer .entry))) wanted ⌝ }
-        ensures buffer { λ _. ⌜ now (buffer .exit) ≡ buffer-after has (view meaning (now (self .entry))) register wanted (now (buffer .entry)) ⌝ }
+        ensures buffer { λ _. ⌜ now (buffer .exit) ≡ filled (read-refusal register wanted (now (buffer .entry))) (shown has (view meaning (now (self .entry))) register wanted) wanted (now (buffer .entry)) ⌝ }
     {
         decode_read(register, wanted, buffer.len())?;
         if register == address::RECEIVE_BUFFER {

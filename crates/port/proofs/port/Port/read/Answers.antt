@@ -1,5 +1,5 @@
 use mathlib.Core.Path.{_≡_, _∙_}
-use Rattle.port.specs.Reads.{read-refusal, shown}
+use Rattle.port.specs.Reads.{read-refusal, shown, read-outcome, buffer-after}
 use Rattle.port.specs.View.{View, view}
 use Rattle.port.proofs.Chain.{whole}
 use Rattle.port.proofs.Quiet.{only-faulted, unaltered}
@@ -7,6 +7,7 @@ use Rattle.port.proofs.Reading.{still, kept-buffer, bytes-shown}
 use Rattle.port.proofs.port.Port.read.Needs as need
 
 pub returns : need.returns
+unfolding read-outcome buffer-after
 returns g c =
     let m = g .F·FrontEnd .meaning in
     let v : View = view m (c .args .self .now) in

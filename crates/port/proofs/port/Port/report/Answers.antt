@@ -1,12 +1,13 @@
 use Rattle.std.specs.declared.option.Option.the-variants.{None}
 use Rattle.port.specs.Outcomes.{taken-with}
-use Rattle.port.specs.Reports.{report-refusal, after-report}
+use Rattle.port.specs.Reports.{report-refusal, after-report, report-outcome}
 use Rattle.port.specs.View.{View, view}
 use Rattle.port.proofs.Chain.{whole}
 use Rattle.port.proofs.Reporting.{unaltered-if-refused}
 use Rattle.port.proofs.port.Port.report.Needs as need
 
 pub returns : need.returns
+unfolding report-outcome
 returns g c =
     let m = g .F·FrontEnd .meaning in
     let v : View = view m (c .args .self .now) in

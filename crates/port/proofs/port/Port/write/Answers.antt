@@ -3,12 +3,13 @@ use Rattle.transfer.specs.Decode.{written}
 use Rattle.transfer.specs.Refusals.{first-holding}
 use Rattle.port.specs.Outcomes.{taken-with}
 use Rattle.port.specs.View.{View, view}
-use Rattle.port.specs.Writes.{write-table, after-write, sent}
+use Rattle.port.specs.Writes.{write-outcome, write-table, after-write, sent}
 use Rattle.port.proofs.Chain.{whole}
 use Rattle.port.proofs.Quiet.{only-faulted}
 use Rattle.port.proofs.port.Port.write.Needs as need
 
 pub returns : need.returns
+unfolding write-outcome
 returns g c =
     let m = g .F·FrontEnd .meaning in
     let has = g .F·FrontEnd .has in
