@@ -1,7 +1,7 @@
 -- ALERT bits stand through every call, but for those that it clears. Assumes nothing.
 use mathlib.Core.Bool.{Bool, true, false, not, cond, _&&_}
 use mathlib.Core.List.{List}
-use mathlib.Core.Path.{_≡_, refl}
+use mathlib.Core.Path.{_≡_}
 use Prim.Native.Nat.{ℕ}
 use lib.Bits.{bitOr, or-self}
 use lib.Dec.{eqb}
@@ -14,7 +14,7 @@ use Rattle.port.specs.Outcomes.{outcome, faulted-by, taken-with}
 use Rattle.port.specs.Reads.{read-refusal}
 use Rattle.port.specs.Reports.{report-refusal, after-report}
 use Rattle.port.specs.View.{View, with-registers}
-use Rattle.port.specs.Writes.{write-table, after-write, sent, hard-resets, releases, with-discard, alert-after}
+use Rattle.port.specs.Writes.{write-table, after-write, sent, alert-after}
 use Rattle.port.specs.declared.answer.Report.{Report}
 use Rattle.port.specs.declared.answer.Report.the-variants.{CcLevels, Vbus, Fault}
 use Rattle.registers.specs.Alerts.{faulted}
@@ -28,7 +28,7 @@ use Rattle.transfer.specs.declared.refusal.Refusal.{Refusal}
 use Rattle.runs.proofs.Bits.{own-bits, with-more}
 use Rattle.runs.specs.Laws.{Alerts-stand}
 use Rattle.runs.specs.Runs.{Call, wrote, read, reported, is-none, next, after}
-use Rattle.runs.specs.Told.{clears, clears-when-taken, cleared}
+use Rattle.runs.specs.Told.{clears, cleared}
 
 -- the second has every bit of the first but these
 abbrev Stands : ℕ → ℕ → ℕ → Type 0

@@ -1,8 +1,8 @@
 -- Bits that stand: or is associative and absorbs, and a cleared bit is zero. Assumes nothing.
-use mathlib.Core.Bool.{false, not}
+use mathlib.Core.Bool.{false}
 use mathlib.Core.Path.{_≡_, refl, sym, ap, ap₂, _∙_}
-use Prim.Native.Nat.{ℕ, zero, suc, max, _+_, _*_, _/_, _%_, _<_, _≤_, _^_, _-_}
-use native.Mathlib.Nat.{div-add-mod', mod-lt, max-eq-left}
+use Prim.Native.Nat.{ℕ, zero, suc, _+_, _*_, _/_, _%_, _<_, _≤_}
+use native.Mathlib.Nat.{div-add-mod', max-eq-left}
 use native.Mathlib.Omega.{arith}
 use lib.Arith.{bin-ind}
 use lib.Bits.{bitAnd, bitOr, or-step, or-shr, or-mod, and-shr, and-mod, and-mask, and-le-l, and-zero-r, or-comm}

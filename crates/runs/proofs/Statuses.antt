@@ -1,8 +1,8 @@
 -- CC_STATUS and POWER_STATUS are their formulas of what was reported and commanded. Assumes nothing.
-use mathlib.Core.Bool.{Bool, true, false, cond, _&&_}
+use mathlib.Core.Bool.{Bool, true, false, cond}
 use mathlib.Core.List.{List}
-use mathlib.Core.Path.{_≡_, refl, ap, sym, _∙_}
-use Prim.Native.Nat.{ℕ, _+_, _*_}
+use mathlib.Core.Path.{_≡_, refl}
+use Prim.Native.Nat.{ℕ}
 use lib.Dec.{eqb}
 use Rattle.std.specs.declared.option.Option.{Option}
 use Rattle.std.specs.declared.option.Option.the-variants.{Some, None}
@@ -17,17 +17,17 @@ use Rattle.port.specs.declared.answer.Report.{Report}
 use Rattle.port.specs.declared.answer.Report.the-variants.{CcLevels, Vbus, Fault}
 use Rattle.registers.specs.Commands.{sets, ends, switch-to, effect, detects}
 use Rattle.registers.specs.Status.{terminations-of, enable-vconn, plug-orientation, vconn-of, cc-status, power-status}
-use Rattle.registers.specs.Writes.{byte-at, value, effect-of}
+use Rattle.registers.specs.Writes.{byte-at, value}
 use Rattle.registers.specs.declared.command.Effect.the-variants.{Nothing, Detect, Switch, Arm, Empty}
 use Rattle.registers.specs.declared.file.Level.{Level}
 use Rattle.registers.specs.declared.file.Level.the-variants.{Zero}
 use Rattle.registers.specs.declared.file.Registers.{Registers}
-use Rattle.transfer.specs.Decode.{Asked, written}
+use Rattle.transfer.specs.Decode.{written}
 use Rattle.runs.proofs.Lasts.{lasts}
 use Rattle.runs.proofs.Outputs.{terminations-follow, vconn-follows}
 use Rattle.runs.specs.Laws.{power-formula, cc-formula, Power-status-shown, Cc-status-shown}
 use Rattle.runs.specs.Runs.{Call, reported, Identifiers, after}
-use Rattle.runs.specs.Told.{sets-cc1, sets-cc2, sets-vbus, sets-detection, commands-detection, cc1-reported, cc2-reported, vbus-reported, detection-commanded, is-on}
+use Rattle.runs.specs.Told.{sets-cc1, sets-cc2, sets-vbus, sets-detection, cc1-reported, cc2-reported, vbus-reported, detection-commanded, is-on}
 
 -- a path switched alters no detection
 switched : (o : Option Path) (on : Bool) → detects (switch-to o) on ≡ on

@@ -7,7 +7,6 @@ use lib.Bits.{bitOr}
 use Rattle.front_end.specs.Meaning.{Meaning}
 use Rattle.front_end.specs.declared.parts.Capabilities.{Capabilities}
 use Rattle.port.specs.Reads.{value-of}
-use Rattle.port.specs.View.{View}
 use Rattle.registers.specs.Bits.{bit, any-of, word-without}
 use Rattle.registers.specs.Status.{asserted, terminations-of, vconn-of, on-cc1, on-cc2, shown, sinking, sourcing, nondefault}
 use Rattle.registers.specs.declared.file.Level.{Level}
@@ -35,7 +34,7 @@ Alerts-stand = (has : Capabilities) (ids : Identifiers) (past : List Call) (c : 
     bitOr (value-of has (after has ids (c ∷ past)) 0x10) (word-without (cleared has (after has ids past) c) (value-of has (after has ids past) 0x10))
     ≡ value-of has (after has ids (c ∷ past)) 0x10
 
--- the front end's part in POWER_STATUS, with VBUS present and detection on
+-- POWER_STATUS by the front end's path and VCONN, by VBUS and by its detection
 abbrev pub power-formula : Meaning → Bool → Bool → ℕ
 power-formula m vbus detection =
     bit (sinking (m .path)) + 2 * bit (is-on (m .vconn)) + 4 * bit (vbus && detection) + 8 * bit detection + 16 * bit (sourcing (m .path))
@@ -46,7 +45,7 @@ abbrev pub Power-status-shown : Type 0
 Power-status-shown = (has : Capabilities) (ids : Identifiers) (past : List Call) →
     value-of has (after has ids past) 0x1E ≡ power-formula (after has ids past .meaning) (vbus-reported has ids past) (detection-commanded has ids past)
 
--- CC_STATUS by the front end's terminations and VCONN and by the levels reported
+-- CC_STATUS by the front end's terminations and VCONN, and by the levels
 abbrev pub cc-formula : Meaning → Level → Level → ℕ
 cc-formula m cc1 cc2 = shown (m .terminations .cc1) (on-cc1 (m .vconn)) cc1 + 4 * shown (m .terminations .cc2) (on-cc2 (m .vconn)) cc2
 

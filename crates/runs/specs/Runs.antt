@@ -31,6 +31,7 @@ refusal-of has v (wrote t) = first-holding (write-table has v t)
 refusal-of has v (read a wanted buffer) = read-refusal a wanted buffer
 refusal-of has v (reported r) = report-refusal v r
 
+-- no refusal
 abbrev pub is-none : Option Refusal → Bool
 is-none (Some r) = false
 is-none None = true

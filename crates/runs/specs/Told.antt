@@ -16,7 +16,7 @@ use Rattle.registers.specs.declared.file.Level.the-variants.{Zero}
 use Rattle.transfer.specs.Decode.{Asked, written}
 use Rattle.runs.specs.Runs.{Call, wrote, read, reported, Identifiers, taken, made-of}
 
--- the level of CC1: as reported, and nothing by a write to ROLE_CONTROL
+-- the level of CC1: as reported, and zero after a write to ROLE_CONTROL
 abbrev pub sets-cc1 : Call → Level → Level
 sets-cc1 (wrote t) level = cond (byte-at 0x1A (written t)) Zero level
 sets-cc1 (read a wanted buffer) level = level
@@ -44,16 +44,17 @@ sets-vbus (reported (Fault n)) present = present
 abbrev pub commands-detection : Asked → Bool → Bool
 commands-detection w on = cond (byte-at 0x23 w) (cond (eqb (value w) 0x22) false (cond (eqb (value w) 0x33) true on)) on
 
+-- detection of VBUS, as commanded
 abbrev pub sets-detection : Call → Bool → Bool
 sets-detection (wrote t) on = commands-detection (written t) on
 sets-detection (read a wanted buffer) on = on
 sets-detection (reported r) on = on
 
--- the level last reported for CC1 since the last write to ROLE_CONTROL
+-- the level last reported for CC1 since the last write to ROLE_CONTROL, of the calls taken
 abbrev pub cc1-reported : Capabilities → Identifiers → List Call → Level
 cc1-reported = made-of sets-cc1 Zero
 
--- the level last reported for CC2 since the last write to ROLE_CONTROL
+-- the level last reported for CC2 since the last write to ROLE_CONTROL, of the calls taken
 abbrev pub cc2-reported : Capabilities → Identifiers → List Call → Level
 cc2-reported = made-of sets-cc2 Zero
 
@@ -75,6 +76,7 @@ is-on Cc2 = true
 abbrev pub clears : Asked → ℕ
 clears w = cond (word-at 0x10 w) (value w) (cond (hard-resets w) 4 0)
 
+-- a write alone clears any
 abbrev pub clears-when-taken : Call → ℕ
 clears-when-taken (wrote t) = clears (written t)
 clears-when-taken (read a wanted buffer) = 0
