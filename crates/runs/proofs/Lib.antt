@@ -1,0 +1,6 @@
+mod Always
+mod Outputs
+mod Bits
+mod Alerts
+mod Lasts
+mod Statuses

@@ -1,0 +1,3 @@
+pub mod Runs
+pub mod Told
+pub mod Laws
