@@ -11,10 +11,10 @@ use Rattle.std.specs.declared.option.Option.the-variants.{Some, None}
 use Rattle.front_end.specs.declared.parts.Capabilities.{Capabilities}
 use Rattle.pd.specs.Messages.{Content}
 use Rattle.port.specs.Outcomes.{outcome, faulted-by, taken-with}
-use Rattle.port.specs.Reads.{read-refusal}
-use Rattle.port.specs.Reports.{report-refusal, after-report}
+use Rattle.port.specs.Reads.{read-outcome, read-refusal}
+use Rattle.port.specs.Reports.{report-outcome, report-refusal, after-report}
 use Rattle.port.specs.View.{View, with-registers}
-use Rattle.port.specs.Writes.{write-table, after-write, sent, alert-after}
+use Rattle.port.specs.Writes.{write-outcome, write-table, after-write, sent, alert-after}
 use Rattle.port.specs.declared.answer.Report.{Report}
 use Rattle.port.specs.declared.answer.Report.the-variants.{CcLevels, Vbus, Fault}
 use Rattle.registers.specs.Alerts.{faulted}
@@ -74,6 +74,7 @@ reported-stands v (Vbus n) = own-bits (v .registers .alert) 65535
 reported-stands v (Fault n) = own-bits (v .registers .alert) 65535
 
 stands : (has : Capabilities) (v : View) (c : Call) → Stands (cleared has v c) (v .registers .alert) (next has v c .registers .alert)
+unfolding write-outcome read-outcome report-outcome
 stands has v (wrote t) =
     through (first-holding (write-table has v t)) (after-write has v (written t)) v (taken-with (sent v (written t) .ended)) (clears (written t))
     (written-stands (written t) (sent v (written t) .ended) (v .receiving .frames) (v .registers .alert))

@@ -7,10 +7,10 @@ use Rattle.std.specs.declared.option.Option.{Option}
 use Rattle.std.specs.declared.option.Option.the-variants.{Some, None}
 use Rattle.front_end.specs.declared.parts.Capabilities.{Capabilities}
 use Rattle.port.specs.Outcomes.{outcome, faulted-by, taken-with}
-use Rattle.port.specs.Reads.{read-refusal}
-use Rattle.port.specs.Reports.{report-refusal, after-report}
+use Rattle.port.specs.Reads.{read-outcome, read-refusal}
+use Rattle.port.specs.Reports.{report-outcome, report-refusal, after-report}
 use Rattle.port.specs.View.{View, with-registers, powered-on}
-use Rattle.port.specs.Writes.{write-table, after-write, sent}
+use Rattle.port.specs.Writes.{write-outcome, write-table, after-write, sent}
 use Rattle.port.specs.declared.answer.Report.{Report}
 use Rattle.registers.specs.Alerts.{faulted}
 use Rattle.registers.specs.File.{with-alert}
@@ -33,6 +33,7 @@ module _ (has : Capabilities) (Holds : View → Type 0)
   through None a v n h f = alerts _ a (f refl)
 
   on : (v : View) (c : Call) → Holds v → Holds (next has v c)
+  unfolding write-outcome read-outcome report-outcome
   on v (wrote t) h =
       through (first-holding (write-table has v t)) (after-write has v (written t)) v (taken-with (sent v (written t) .ended)) h (λ e. writes v t e h)
   on v (read a wanted buffer) h = through (read-refusal a wanted buffer) v v wanted h (λ e. h)

@@ -7,10 +7,10 @@ use Rattle.std.specs.declared.option.Option.{Option}
 use Rattle.std.specs.declared.option.Option.the-variants.{Some, None}
 use Rattle.front_end.specs.declared.parts.Capabilities.{Capabilities}
 use Rattle.port.specs.Outcomes.{outcome, faulted-by, taken-with}
-use Rattle.port.specs.Reads.{read-refusal}
-use Rattle.port.specs.Reports.{report-refusal, after-report}
+use Rattle.port.specs.Reads.{read-outcome, read-refusal}
+use Rattle.port.specs.Reports.{report-outcome, report-refusal, after-report}
 use Rattle.port.specs.View.{View, with-registers}
-use Rattle.port.specs.Writes.{write-table, after-write, sent}
+use Rattle.port.specs.Writes.{write-outcome, write-table, after-write, sent}
 use Rattle.port.specs.declared.answer.Report.{Report}
 use Rattle.registers.specs.Alerts.{faulted}
 use Rattle.registers.specs.File.{with-alert, powered-on}
@@ -37,6 +37,7 @@ module _ {A : Type 0} (has : Capabilities) (get : Registers → A) (by : Call �
   through None a v n x h = alerts _ (a .registers) ∙ h
 
   made : (v : View) (c : Call) → get (next has v c .registers) ≡ cond (taken has v c) (by c (get (v .registers))) (get (v .registers))
+  unfolding write-outcome read-outcome report-outcome
   made v (wrote t) =
       through (first-holding (write-table has v t)) (after-write has v (written t)) v (taken-with (sent v (written t) .ended)) (by (wrote t) (get (v .registers)))
       (writes v t)
