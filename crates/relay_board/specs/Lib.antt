@@ -1,3 +1,4 @@
+pub mod Exclusive
 pub mod Pins
 pub mod Lines
 pub mod Relays

@@ -85,8 +85,10 @@ pub impl FrontEnd for RelayBoard as RelayFrontEnd {
             Vconn::Cc1 => (true, false),
             Vconn::Cc2 => (false, true),
         };
-        self.switches.vconn_cc1 = cc1;
+        // Break before make: no moment has both switches closed.
+        self.switches.vconn_cc1 = false;
         self.switches.vconn_cc2 = cc2;
+        self.switches.vconn_cc1 = cc1;
     }
 
     fn set_path(&mut self, path: Path) {
@@ -96,6 +98,9 @@ pub impl FrontEnd for RelayBoard as RelayFrontEnd {
             Path::DefaultSource => (false, true, false),
             Path::NondefaultSource => (false, true, true),
         };
+        // Break before make: no moment has sink and source closed, or a raised source that is open.
+        self.switches.raised = false;
+        self.switches.source = false;
         self.switches.sink = sink;
         self.switches.source = source;
         self.switches.raised = raised;

@@ -1,46 +1,18 @@
 //! The switches of the relay board, one bit each.
+//! By their types no pin has two resistors, VCONN is on one pin at most, and nothing sinks and sources at once.
+ghost use mathlib.Core.Bool.{true};
 ghost use mathlib.Core.Path.{_≡_};
-ghost use Rattle.relay_board.specs.Pins.{pin-of};
-use front_end::Termination;
+ghost use Rattle.relay_board.specs.Exclusive.{not-both, at-most-one, only-with};
+
+mod resistors;
 
 /// The three resistors of a CC pin; with none switched in, the pin is open.
 #[derive(Clone, Copy)]
 pub(crate) struct Pin {
-    pub(crate) ra: bool,
-    pub(crate) rp: bool,
-    pub(crate) rd: bool,
-}
-
-impl Pin {
-    pub(crate) fn with(termination: Termination) -> Pin
-        ensures { λ r. ⌜ pin-of r ≡ termination ⌝ }
-    {
-        let open = Pin {
-            ra: false,
-            rp: false,
-            rd: false,
-        };
-        match termination {
-            Termination::Ra => Pin { ra: true, ..open },
-            Termination::Rp => Pin { rp: true, ..open },
-            Termination::Rd => Pin { rd: true, ..open },
-            Termination::Open => open,
-        }
-    }
-
-    pub(crate) fn termination(self) -> Termination
-        ensures { λ r. ⌜ r ≡ pin-of self ⌝ }
-    {
-        if self.ra {
-            Termination::Ra
-        } else if self.rp {
-            Termination::Rp
-        } else if self.rd {
-            Termination::Rd
-        } else {
-            Termination::Open
-        }
-    }
+    ra: bool,
+    rp: bool,
+    rd: bool,
+    ghost single: { at-most-one ra rp rd ≡ true },
 }
 
 #[derive(Drop)]
@@ -54,4 +26,7 @@ pub(crate) struct RelaySwitches {
     pub(crate) sink: bool,
     pub(crate) source: bool,
     pub(crate) raised: bool,
+    ghost one_pin_powered: { not-both «vconn_cc1» «vconn_cc2» ≡ true },
+    ghost one_direction: { not-both sink source ≡ true },
+    ghost raised_while_sourcing: { only-with raised source ≡ true },
 }
