@@ -103,7 +103,7 @@ impl Receiver {
     }
 
     /// What stands at `place` of the receive buffer: count, type and bytes of the oldest frame, then zeros.
-    pub fn shown_byte(&self, place: usize) -> u8
+    pub(crate) fn shown_byte(&self, place: usize) -> u8
         ensures { λ r. ⌜ r ≡ getD (shown-bytes (receiving (now (self .entry)) .frames)) place 0 ⌝ }
     {
         self.waiting.shown_byte(place)

@@ -96,7 +96,7 @@ impl Sender {
     }
 
     /// Ends whatever is under way.
-    pub fn discard(&mut self) -> Option<End>
+    pub(crate) fn discard(&mut self) -> Option<End>
         ensures { λ r. ⌜ record { after = sending-of (now (self .exit)); ended = r } ≡ discarding (sending-of (now (self .entry))) ⌝ }
     {
         if !self.is_under_way() {
@@ -113,13 +113,13 @@ impl Sender {
     }
 
     /// Whether a reset is being signalled.
-    pub fn is_resetting(&self) -> bool
+    pub(crate) fn is_resetting(&self) -> bool
         ensures { λ r. ⌜ r ≡ reset-under-way (sending-of (now (self .entry)) .under) ⌝ }
     {
         matches!(self.state, State::Signalling { .. })
     }
 
-    pub fn hard_reset_under_way(&self) -> bool
+    pub(crate) fn hard_reset_under_way(&self) -> bool
         ensures { λ r. ⌜ r ≡ hard-reset-under-way (sending-of (now (self .entry)) .under) ⌝ }
     {
         self.is_resetting() && is_hard_reset(self.message.kind())
