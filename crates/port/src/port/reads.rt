@@ -1,4 +1,5 @@
-//! A read: judged, then shown at the front of the reader's buffer. It alters nothing.
+//! A read: judged, then shown at the front of the reader's buffer.
+//! A taken read alters nothing but that buffer.
 ghost use mathlib.Core.Bool.{true};
 ghost use mathlib.Core.Path.{_≡_};
 ghost use Prim.Native.Nat.{_≤_};

@@ -1,4 +1,5 @@
 //! A report from the connector: judged by the register file, then acted on at the switches.
+//! Wants the switches of the front end alone, never its line.
 ghost use mathlib.Core.Path.{_≡_};
 ghost use Rattle.std.specs.declared.option.Option.the-variants.{None};
 ghost use Rattle.registers.specs.Reports.{levels-refusal, vbus-refusal, fault-refusal};

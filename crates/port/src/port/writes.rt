@@ -1,4 +1,5 @@
 //! A write transfer: decoded, judged, and only then acted on.
+//! Judging alters nothing; acting refuses nothing.
 ghost use mathlib.Core.Path.{_≡_};
 ghost use Rattle.pd.specs.Messages.{contents};
 ghost use Rattle.port.specs.View.{view};
@@ -30,8 +31,6 @@ use transfer::decode_write;
 const FRAME_WAITS: u16 = 0x0004;
 
 const DISCARDED: u16 = 0x0020;
-
-/// The type of a sending in TRANSMIT, and the Hard Reset's.
 
 impl<F: FrontEnd> Port<F> {
     fn judge_transmit(&self, value: u8) -> Result<Effect, Refusal>
@@ -127,8 +126,8 @@ impl<F: FrontEnd> Port<F> {
         None
     }
 
-    fn react_to_word(&mut self, register: u8, value: u16, held_back: bool)
-        ensures { λ _. ⌜ without-end (view meaning (now (self .exit))) ≡ reacted has (word register value) «held_back» (view meaning (now (self .entry))) ⌝ }
+    fn react_to_word(&mut self, register: u8, value: u16)
+        ensures { λ _. ⌜ without-end (view meaning (now (self .exit))) ≡ reacted has (word register value) false (view meaning (now (self .entry))) ⌝ }
     {
         if register == address::ALERT && value & FRAME_WAITS != 0 {
             self.receiver.release();
@@ -149,7 +148,7 @@ impl<F: FrontEnd> Port<F> {
                 ..
             } => self.react_to_byte(register, value, held_back),
             WriteRequest::Word { register, value } => {
-                self.react_to_word(register, value, held_back);
+                self.react_to_word(register, value);
                 None
             }
             WriteRequest::Append(bytes) => {
