@@ -1,4 +1,4 @@
-//! Examples of docs/PORT.md, run: a crate of its own, since a crate with tests is proved twice.
+//! Examples of docs/PORT-OTHER.md, run: a crate of its own, since a crate with tests is proved twice.
 #[cfg(test)]
 mod boards;
 #[cfg(test)]
