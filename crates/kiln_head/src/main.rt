@@ -1,4 +1,6 @@
 //! One head after the other: found as it was left, powered on, configured by its port manager, powered off.
+#![tactic(auto)]
+
 mod calls;
 mod head;
 mod outputs;

@@ -1,5 +1,7 @@
 //! How a front end changes hands: each port has its own, and gets it back before it is powered on again.
 //! What must not be done with a port stands in refused/, as edits of this file.
+#![tactic(auto)]
+
 ghost use Rattle.std.specs.Prelude.{◌≡◌};
 ghost use Rattle.front_end.specs.Meaning.{safe};
 

@@ -1,5 +1,7 @@
 //! What stands on the CC wire: kinds of messages and signals, headers, GoodCRCs.
 //! Knows of no register and no front end.
+#![tactic(auto)]
+
 mod bits;
 mod header;
 mod kind;

@@ -1,5 +1,7 @@
 //! A port controller over any front end: a transfer or a report comes in, is judged, acted on, answered.
 //! Owns its front end from power on to power off.
+#![tactic(auto)]
+
 mod answer;
 mod port;
 

@@ -1,5 +1,7 @@
 //! The register file: what is stored, what follows from it, and what a write or a report does to it.
 //! Plain values: knows the capabilities and the path that it is told, touches no front end.
+#![tactic(auto)]
+
 mod alerts;
 mod command;
 mod file;

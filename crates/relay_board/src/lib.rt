@@ -1,5 +1,7 @@
 //! The relay board: a front end that can switch everything.
 //! Keeps one bit for each switch, and counts the starts made on its line.
+#![tactic(auto)]
+
 mod board;
 mod line;
 mod switches;

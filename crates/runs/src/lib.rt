@@ -1,5 +1,7 @@
 //! What holds after every run of one port: every list of calls from power on, over every front end.
 //! Each function's contract is one law; its body does nothing.
+#![tactic(auto)]
+
 ghost use Rattle.runs.specs.Laws.{PinShowsAlerts, TerminationsFollow, VconnFollows, AlertsStand, PowerStatusShown, CcStatusShown};
 
 pub fn pin_shows_alerts() -> u8

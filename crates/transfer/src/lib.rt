@@ -1,5 +1,7 @@
 //! From the bytes of a transfer to a request, or to a refusal with its number.
 //! Has the one list of registers; knows of no register's value and of no front end.
+#![tactic(auto)]
+
 pub mod address;
 mod decode;
 mod list;

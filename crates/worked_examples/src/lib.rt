@@ -1,4 +1,6 @@
 //! Examples of docs/PORT-OTHER.md, run: a crate of its own, since a crate with tests is proved twice.
+#![tactic(auto)]
+
 #[cfg(test)]
 mod boards;
 #[cfg(test)]

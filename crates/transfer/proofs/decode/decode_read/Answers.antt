@@ -10,16 +10,16 @@ use Rattle.transfer.proofs.decode.decode_read.Goals as goal
 impossible : (m n : ℕ) → false ≡ true → m ≤ n
 impossible m n h = let z : ◌≡◌ {A = ℕ} 0 1 = cc in omega arith
 
-pub returns-in-err-listed-for : goal.returns-in-err-listed-for
-returns-in-err-listed-for c =
-    let p = err_from_is_err_and c.from-residual.result c.from-residual.ensures.1 in
+pub returns-in_err-listed_for : goal.returns-in_err-listed_for
+returns-in_err-listed_for c =
+    let p = err_from_is_err_and c.from_residual.result c.from_residual.ensures.1 in
     let room : ltb c.args.room c.args.wanted ≡ false = search rules in
-    let e = refused_by _ _ c.in-err-listed-for.field-0.0 c.in-err-listed-for.ensures.judged in
+    let e = refused_by _ _ c.in_err-listed_for.field-0.0 c.in_err-listed_for.ensures.judged in
     record { judged = rw (p.1, p.2, room, e); at_most_a_word_elsewhere = rw p.1 (λ k x. impossible c.args.wanted 2 k) }
 
 pub returns : goal.returns
 returns c =
     let room : ltb c.args.room c.args.wanted ≡ false = search rules in
     let rows = first_holding (list_rows c.args.register Read c.args.wanted) in
-    let n = not_refused rows _ _ c.in-ok-listed-for.ensures.judged in
+    let n = not_refused rows _ _ c.in_ok-listed_for.ensures.judged in
     record { judged = rw (room, n); at_most_a_word_elsewhere = λ k x. short_elsewhere c.args.register c.args.wanted n x }

@@ -13,13 +13,13 @@ use Rattle.transfer.proofs.decode.decode_write.Goals as goal
 by_the_list : (t : List ℕ) (e : Refusal) → eqb (length t) 0 ≡ false → first_holding (list_rows (named t) Write (length t - 1)) ≡ Some e → first_holding (write_rows t) ≡ Some e
 by_the_list t e n h = rw n (first_left (list_rows (named t) Write (length t - 1)) (count_rows t) e h)
 
-pub returns-in-err-listed : goal.returns-in-err-listed
-returns-in-err-listed c =
+pub returns-in_err-listed : goal.returns-in_err-listed
+returns-in_err-listed c =
     let t = c.args.transfer.now in
-    let p = err_from_is_err_and c.from-residual.result c.from-residual.ensures.1 in
-    let e = c.in-err-listed.field-0.0 in
+    let p = err_from_is_err_and c.from_residual.result c.from_residual.ensures.1 in
+    let e = c.in_err-listed.field-0.0 in
     let n : eqb (length t) 0 ≡ false = search rules in
-    let h = refused_by (first_holding (list_rows (named t) Write (length t - 1))) _ e c.in-err-listed.ensures.judged in
+    let h = refused_by (first_holding (list_rows (named t) Write (length t - 1))) _ e c.in_err-listed.ensures.judged in
     rw (p.1, p.2) (refuses (first_holding (write_rows t)) (written t) e (by_the_list t e n h))
 
 pub returns-then-count-rest : goal.returns-then-count-rest

@@ -5,4 +5,4 @@ use Rattle.transfer.proofs.list.find.Goals as goal
 -- the list of the code is the list of the specification, row by row
 pub returns : goal.returns
 unfolding listed registers
-returns c = record { found = c.«first-at».ensures; taken_apart = every_entry c.args.address }
+returns c = record { found = c.first_at.ensures; taken_apart = every_entry c.args.address }

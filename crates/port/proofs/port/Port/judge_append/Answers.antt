@@ -7,9 +7,9 @@ use Rattle.transfer.specs.Refusals.{first_holding}
 use Rattle.transfer.proofs.Tables.{refused_by, refuses}
 use Rattle.port.proofs.port.Port.judge_append.Goals as goal
 
-pub returns-in-err-room-for : goal.returns-in-err-room-for
-returns-in-err-room-for g c =
-    let p = err_from_is_err_and c.from-residual.result c.from-residual.ensures.1 in
-    let e = c.in-err-room-for.field-0.0 in
+pub returns-in_err-room_for : goal.returns-in_err-room_for
+returns-in_err-room_for g c =
+    let p = err_from_is_err_and c.from_residual.result c.from_residual.ensures.1 in
+    let e = c.in_err-room_for.field-0.0 in
     let o = first_holding (append_rows (length (sending_of c.args.self.now.sender).buffer) c.args.count) in
-    rw (p.1, p.2) (refuses o Nothing e (refused_by o (tt {0}) e c.in-err-room-for.ensures))
+    rw (p.1, p.2) (refuses o Nothing e (refused_by o (tt {0}) e c.in_err-room_for.ensures))

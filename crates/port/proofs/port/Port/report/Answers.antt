@@ -16,6 +16,6 @@ returns g c =
     let a = after_report v p in
     let n = taken_with None in
     let w =
-    whole (report_refusal v p) a v (view m c.take-report-outcome.new.self) x n c.take-report-outcome.result c.conclude.result c.path-path.result c.take-report-outcome.ensures c.path-path.ensures
+    whole (report_refusal v p) a v (view m c.take_report-outcome.new.self) x n c.take_report-outcome.result c.conclude.result c.path-path.result c.take_report-outcome.ensures c.path-path.ensures
     c.conclude.ensures.view c.conclude.ensures.answer in
     record { outcome = w; refused_alters_nothing = unaltered_if_refused p a v x n c.conclude.result w }

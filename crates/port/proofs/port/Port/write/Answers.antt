@@ -20,6 +20,6 @@ returns g c =
     let x : View = view m c.conclude.new.self in
     let o = first_holding (write_table has v t) in
     let w =
-    whole o a v (view m c.take-write-outcome.new.self) x n c.take-write-outcome.result c.conclude.result c.path-path.result c.take-write-outcome.ensures c.path-path.ensures c.conclude.ensures.view
+    whole o a v (view m c.take_write-outcome.new.self) x n c.take_write-outcome.result c.conclude.result c.path-path.result c.take_write-outcome.ensures c.path-path.ensures c.conclude.ensures.view
     c.conclude.ensures.answer in
     record { outcome = w; refused_alters_the_fault_alone = only_faulted o a v x n c.conclude.result w }
