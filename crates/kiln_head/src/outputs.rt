@@ -16,7 +16,7 @@ pub(crate) struct Outputs {
 
 impl Outputs {
     pub(crate) fn of<F: FrontEnd>(front: &F) -> Outputs
-        ensures { shown result ≡ meaning front.now }
+        ensures { shown result ≡ F.meaning front.now }
     {
         Outputs {
             terminations: front.terminations(),

@@ -13,7 +13,7 @@ const DETECT_VBUS: [u8; 2] = [0x23, 0x33];
 
 /// Powered on, written to, powered off, and the same again with the front end that came back.
 pub fn power_cycle<F: FrontEnd>(front: F) -> F
-    ensures { meaning result ≡ safe }
+    ensures { F.meaning result ≡ safe }
 {
     let mut port = Port::power_on(front, 1, 2, 3);
     let _ = port.write(&DETECT_VBUS);
@@ -25,7 +25,7 @@ pub fn power_cycle<F: FrontEnd>(front: F) -> F
 
 /// Two ports at a time, each on a front end of its own.
 pub fn side_by_side<F: FrontEnd>(left: F, right: F) -> (F, F)
-    ensures { (meaning result.0 ≡ safe) × (meaning result.1 ≡ safe) }
+    ensures { (F.meaning result.0 ≡ safe) × (F.meaning result.1 ≡ safe) }
 {
     let first = Port::power_on(left, 1, 2, 3);
     let second = Port::power_on(right, 1, 2, 4);

@@ -33,7 +33,7 @@ const POWERED_OFF: Terminations = Terminations {
 impl<F: FrontEnd> Port<F> {
     /// The start of every run, whatever the front end did before.
     pub fn power_on(mut front: F, vendor: u16, product: u16, device: u16) -> Port<F>
-        ensures { view meaning result ≡ powered_on vendor product device }
+        ensures { view F.meaning result ≡ powered_on vendor product device }
     {
         let registers = Registers::power_on(vendor, product, device);
         front.set_path(Path::Off);
@@ -50,7 +50,7 @@ impl<F: FrontEnd> Port<F> {
 
     /// Ends the port and hands its front end back, safe.
     pub fn power_off(self) -> F
-        ensures { meaning result ≡ safe }
+        ensures { F.meaning result ≡ safe }
     {
         let Port {
             mut front,
@@ -74,7 +74,7 @@ impl<F: FrontEnd> Port<F> {
 
     /// Whether Alert# is asserted.
     pub fn alert_asserted(&self) -> bool
-        ensures { result ≡ asserted (view meaning self.now).registers }
+        ensures { result ≡ asserted (view F.meaning self.now).registers }
     {
         self.registers.alert_asserted()
     }
@@ -86,7 +86,7 @@ impl<F: FrontEnd> Port<F> {
         path: Path,
         outcome: Result<T, Refusal>,
     ) -> Result<T, Refusal>
-        ensures view { view meaning self.new ≡ concluded before.now path outcome (view meaning self.old) }
+        ensures view { view F.meaning self.new ≡ concluded before.now path outcome (view F.meaning self.old) }
         ensures answer { result ≡ outcome }
     {
         if let Err(refusal) = &outcome {

@@ -1,6 +1,6 @@
 -- The front end's terminations and VCONN follow the registers, through every call. Assumes nothing.
 use Rattle.std.proofs.Common.{◌≡◌, ℕ, zero, suc, Bool, true, false, cond, not, ◌&&◌, ◌||◌, eqb, List, [], ◌∷◌, ◌++◌, None, refl, ap}
-use Rattle.std.proofs.lemmas.Bool.{or_parts, not_false}
+use Rattle.std.proofs.lemmas.Bool.{or_parts, not-false}
 use Rattle.front_end.specs.Meaning.{has_vconn}
 use Rattle.front_end.specs.declared.parts.Capabilities.{Capabilities}
 use Rattle.front_end.specs.declared.parts.Terminations.{Terminations}
@@ -58,7 +58,7 @@ none_at (suc k) (r ∷ rs) h = none_at k rs (none_after r rs h)
 -- EnableVconn is 1 only on a front end with VCONN
 enabled : (has : Capabilities) (b : Bool) (new old : ℕ) → (b && any_of 1 new && not has.vconn) ≡ false → (any_of 1 old ≡ true → has.vconn ≡ true) →
     any_of 1 (cond b new old) ≡ true → has.vconn ≡ true
-enabled has true new old h f k = not_false has.vconn (rw k at h)
+enabled has true new old h f k = not-false has.vconn (rw k at h)
 enabled has false new old h f k = f k
 
 pub record Powered (has : Capabilities) (v : View) : Type 0 where

@@ -12,7 +12,7 @@ use transfer::{Refusal, address, decode_read};
 
 impl<F: FrontEnd> Port<F> {
     fn value_at(&self, register: u8) -> u16
-        ensures { result ≡ value_of has (view meaning self.now) register }
+        ensures { result ≡ value_of F.has (view F.meaning self.now) register }
     {
         match register {
             address::MESSAGE_HEADER_INFO => u16::from(self.receiver.info()),
@@ -26,7 +26,7 @@ impl<F: FrontEnd> Port<F> {
     /// Shows the bytes wanted, or refuses and leaves the buffer.
     fn show(&self, register: u8, wanted: usize, buffer: &mut [u8]) -> Result<usize, Refusal>
         ensures answer { result ≡ refused_or (read_refusal register wanted buffer.old) wanted }
-        ensures buffer { buffer.new ≡ filled (read_refusal register wanted buffer.old) (shown has (view meaning self.now) register wanted) wanted buffer.old }
+        ensures buffer { buffer.new ≡ filled (read_refusal register wanted buffer.old) (shown F.has (view F.meaning self.now) register wanted) wanted buffer.old }
     {
         decode_read(register, wanted, buffer.len())?;
         if register == address::RECEIVE_BUFFER {
@@ -40,11 +40,11 @@ impl<F: FrontEnd> Port<F> {
 
     /// A read of `wanted` bytes at `register`; answers how many bytes it wrote.
     pub fn read(&mut self, register: u8, wanted: usize, buffer: &mut [u8]) -> Result<usize, Refusal>
-        ensures outcome { record { view = view meaning self.new; answer = result } ≡ read_outcome (view meaning self.old) register wanted buffer.old }
-        ensures buffer { buffer.new ≡ buffer_after has (view meaning self.old) register wanted buffer.old }
-        ensures refused_alters_the_fault_alone { OnlyFaulted result (view meaning self.old) (view meaning self.new) }
+        ensures outcome { record { view = view F.meaning self.new; answer = result } ≡ read_outcome (view F.meaning self.old) register wanted buffer.old }
+        ensures buffer { buffer.new ≡ buffer_after F.has (view F.meaning self.old) register wanted buffer.old }
+        ensures refused_alters_the_fault_alone { OnlyFaulted result (view F.meaning self.old) (view F.meaning self.new) }
         ensures refused_leaves_the_buffer { is_err result ≡ true → buffer.new ≡ buffer.old }
-        ensures taken_shows_the_bytes_alone { result ≡ Ok wanted → Shown has register wanted (view meaning self.old) (view meaning self.new) buffer.old buffer.new }
+        ensures taken_shows_the_bytes_alone { result ≡ Ok wanted → Shown F.has register wanted (view F.meaning self.old) (view F.meaning self.new) buffer.old buffer.new }
     {
         let before = self.registers;
         let path = self.front.path();

@@ -16,7 +16,7 @@ use transfer::Refusal;
 
 impl<F: FrontEnd> Port<F> {
     fn turn_off(&mut self, trip: Trip)
-        ensures { view meaning self.new ≡ tripped trip (view meaning self.old) }
+        ensures { view F.meaning self.new ≡ tripped trip (view F.meaning self.old) }
     {
         match trip {
             Trip::Vconn => self.front.set_vconn(Vconn::Off),
@@ -25,7 +25,7 @@ impl<F: FrontEnd> Port<F> {
     }
 
     fn take_fault(&mut self, number: u8) -> Result<Answer, Refusal>
-        ensures { record { view = view meaning self.new; answer = result } ≡ unsettled (fault_refusal number) (after_fault number (view meaning self.old)) (taken_with None) (view meaning self.old) }
+        ensures { record { view = view F.meaning self.new; answer = result } ≡ unsettled (fault_refusal number) (after_fault number (view F.meaning self.old)) (taken_with None) (view F.meaning self.old) }
     {
         match self.registers.report_fault(number) {
             Ok(trip) => {
@@ -37,7 +37,7 @@ impl<F: FrontEnd> Port<F> {
     }
 
     fn take_levels(&mut self, cc1: u8, cc2: u8) -> Result<Answer, Refusal>
-        ensures { record { view = view meaning self.new; answer = result } ≡ unsettled (levels_refusal cc1 cc2 self.old.registers) (after_report (view meaning self.old) (CcLevels cc1 cc2)) (taken_with None) (view meaning self.old) }
+        ensures { record { view = view F.meaning self.new; answer = result } ≡ unsettled (levels_refusal cc1 cc2 self.old.registers) (after_report (view F.meaning self.old) (CcLevels cc1 cc2)) (taken_with None) (view F.meaning self.old) }
     {
         match self.registers.report_levels(cc1, cc2) {
             Ok(()) => Ok(Answer::taken(None)),
@@ -46,7 +46,7 @@ impl<F: FrontEnd> Port<F> {
     }
 
     fn take_vbus(&mut self, number: u8) -> Result<Answer, Refusal>
-        ensures { record { view = view meaning self.new; answer = result } ≡ unsettled (vbus_refusal number) (after_report (view meaning self.old) (Vbus number)) (taken_with None) (view meaning self.old) }
+        ensures { record { view = view F.meaning self.new; answer = result } ≡ unsettled (vbus_refusal number) (after_report (view F.meaning self.old) (Vbus number)) (taken_with None) (view F.meaning self.old) }
     {
         match self.registers.report_vbus(number) {
             Ok(()) => Ok(Answer::taken(None)),
@@ -55,7 +55,7 @@ impl<F: FrontEnd> Port<F> {
     }
 
     fn take_report(&mut self, report: Report) -> Result<Answer, Refusal>
-        ensures { record { view = view meaning self.new; answer = result } ≡ unsettled (report_refusal (view meaning self.old) report) (after_report (view meaning self.old) report) (taken_with None) (view meaning self.old) }
+        ensures { record { view = view F.meaning self.new; answer = result } ≡ unsettled (report_refusal (view F.meaning self.old) report) (after_report (view F.meaning self.old) report) (taken_with None) (view F.meaning self.old) }
     {
         match report {
             Report::CcLevels { cc1, cc2 } => self.take_levels(cc1, cc2),
@@ -66,8 +66,8 @@ impl<F: FrontEnd> Port<F> {
 
     /// What happened at the connector, as raw numbers.
     pub fn report(&mut self, report: Report) -> Result<Answer, Refusal>
-        ensures outcome { record { view = view meaning self.new; answer = result } ≡ report_outcome (view meaning self.old) report }
-        ensures refused_alters_nothing { UnalteredIfRefused result (view meaning self.old) (view meaning self.new) }
+        ensures outcome { record { view = view F.meaning self.new; answer = result } ≡ report_outcome (view F.meaning self.old) report }
+        ensures refused_alters_nothing { UnalteredIfRefused result (view F.meaning self.old) (view F.meaning self.new) }
     {
         let before = self.registers;
         let path = self.front.path();

@@ -28,14 +28,14 @@ const DISCARDED: u16 = 0x0020;
 
 impl<F: FrontEnd> Port<F> {
     fn judge_transmit(&self, value: u8) -> Result<Effect, Refusal>
-        ensures { result ≡ refused_or (first_holding (transmit_rows (view meaning self.now).sending value)) Nothing }
+        ensures { result ≡ refused_or (first_holding (transmit_rows (view F.meaning self.now).sending value)) Nothing }
     {
         self.sender.judge(value)?;
         Ok(Effect::Nothing)
     }
 
     fn judge_append(&self, count: usize) -> Result<Effect, Refusal>
-        ensures { result ≡ refused_or (first_holding (append_rows (length (view meaning self.now).sending.buffer) count)) Nothing }
+        ensures { result ≡ refused_or (first_holding (append_rows (length (view F.meaning self.now).sending.buffer) count)) Nothing }
     {
         self.sender.room_for(count)?;
         Ok(Effect::Nothing)
@@ -43,7 +43,7 @@ impl<F: FrontEnd> Port<F> {
 
     /// Why a request that is well transferred is refused, or what it does beside what it stores.
     fn judge(&self, request: WriteRequest<'_>) -> Result<Effect, Refusal>
-        ensures { result ≡ refused_or (first_holding (taking_rows has (view meaning self.now) (asked request.entry))) (effect_of (asked request.entry) (meaning self.now.front).path) }
+        ensures { result ≡ refused_or (first_holding (taking_rows F.has (view F.meaning self.now) (asked request.entry))) (effect_of (asked request.entry) (F.meaning self.now.front).path) }
     {
         match request {
             WriteRequest::Append(bytes) => self.judge_append(bytes.len()),
@@ -57,7 +57,7 @@ impl<F: FrontEnd> Port<F> {
     }
 
     fn obey(&mut self, effect: Effect)
-        ensures { view meaning self.new ≡ obeyed has effect (view meaning self.old) }
+        ensures { view F.meaning self.new ≡ obeyed F.has effect (view F.meaning self.old) }
     {
         self.registers.detect(effect);
         match effect {
@@ -70,7 +70,7 @@ impl<F: FrontEnd> Port<F> {
 
     /// A Hard Reset to be sent drops what waits and what would be received.
     fn reset_reception(&mut self, value: u8)
-        ensures { view meaning self.new ≡ reset_by value (view meaning self.old) }
+        ensures { view F.meaning self.new ≡ reset_by value (view F.meaning self.old) }
     {
         if type_of(value) == Kind::HardReset.number() {
             self.receiver.reset();
@@ -79,7 +79,7 @@ impl<F: FrontEnd> Port<F> {
     }
 
     fn put_on_line(&mut self, started: Option<Message>)
-        ensures { view meaning self.new ≡ on_line_after (contents started) (view meaning self.old) }
+        ensures { view F.meaning self.new ≡ on_line_after (contents started) (view F.meaning self.old) }
     {
         if let Some(message) = started {
             self.front.send(&message);
@@ -87,7 +87,7 @@ impl<F: FrontEnd> Port<F> {
     }
 
     fn note_discard(&mut self, ended: Option<End>)
-        ensures { view meaning self.new ≡ discard_noted ended (view meaning self.old) }
+        ensures { view F.meaning self.new ≡ discard_noted ended (view F.meaning self.old) }
     {
         if let Some(_) = ended {
             self.registers.mark(DISCARDED);
@@ -96,7 +96,7 @@ impl<F: FrontEnd> Port<F> {
 
     /// Accepts a sending; `held_back` while ALERT bit 2 or 3 is 1.
     fn transmit(&mut self, value: u8, held_back: bool) -> Option<End>
-        ensures { record { view = view meaning self.new; ended = result } ≡ reacted has (byte 0x50 value false) held_back (view meaning self.old) }
+        ensures { record { view = view F.meaning self.new; ended = result } ≡ reacted F.has (byte 0x50 value false) held_back (view F.meaning self.old) }
     {
         let accepted = self.sender.transmit(value, held_back);
         self.reset_reception(value);
@@ -106,7 +106,7 @@ impl<F: FrontEnd> Port<F> {
     }
 
     fn react_to_byte(&mut self, register: u8, value: u8, held_back: bool) -> Option<End>
-        ensures { record { view = view meaning self.new; ended = result } ≡ reacted has (byte register value false) held_back (view meaning self.old) }
+        ensures { record { view = view F.meaning self.new; ended = result } ≡ reacted F.has (byte register value false) held_back (view F.meaning self.old) }
     {
         match register {
             address::TCPC_CONTROL | address::POWER_CONTROL => self
@@ -122,7 +122,7 @@ impl<F: FrontEnd> Port<F> {
     }
 
     fn react_to_word(&mut self, register: u8, value: u16)
-        ensures { without_end (view meaning self.new) ≡ reacted has (word register value) false (view meaning self.old) }
+        ensures { without_end (view F.meaning self.new) ≡ reacted F.has (word register value) false (view F.meaning self.old) }
     {
         if register == address::ALERT && value & FRAME_WAITS != 0 {
             self.receiver.release();
@@ -134,7 +134,7 @@ impl<F: FrontEnd> Port<F> {
 
     /// What a taken request does beside the registers that it stores.
     fn react(&mut self, request: WriteRequest<'_>, held_back: bool) -> Option<End>
-        ensures { record { view = view meaning self.new; ended = result } ≡ reacted has (asked request.entry) held_back (view meaning self.old) }
+        ensures { record { view = view F.meaning self.new; ended = result } ≡ reacted F.has (asked request.entry) held_back (view F.meaning self.old) }
     {
         match request {
             WriteRequest::Byte {
@@ -154,7 +154,7 @@ impl<F: FrontEnd> Port<F> {
     }
 
     fn act(&mut self, request: WriteRequest<'_>, effect: Effect) -> Option<End>
-        ensures { record { view = view meaning self.new; ended = result } ≡ acted has (asked request.entry) effect (view meaning self.old) }
+        ensures { record { view = view F.meaning self.new; ended = result } ≡ acted F.has (asked request.entry) effect (view F.meaning self.old) }
     {
         let held_back = self.registers.hold_back();
         self.registers.store(request);
@@ -164,7 +164,7 @@ impl<F: FrontEnd> Port<F> {
 
     /// Takes a write, or refuses it and leaves all as it was.
     fn take_write(&mut self, transfer: &[u8]) -> Result<Answer, Refusal>
-        ensures { record { view = view meaning self.new; answer = result } ≡ write_unsettled has (view meaning self.old) transfer.now }
+        ensures { record { view = view F.meaning self.new; answer = result } ≡ write_unsettled F.has (view F.meaning self.old) transfer.now }
     {
         let request = decode_write(transfer)?;
         let effect = self.judge(request)?;
@@ -174,8 +174,8 @@ impl<F: FrontEnd> Port<F> {
 
     /// A write transfer of any bytes.
     pub fn write(&mut self, transfer: &[u8]) -> Result<Answer, Refusal>
-        ensures outcome { record { view = view meaning self.new; answer = result } ≡ write_outcome has (view meaning self.old) transfer.now }
-        ensures refused_alters_the_fault_alone { OnlyFaulted result (view meaning self.old) (view meaning self.new) }
+        ensures outcome { record { view = view F.meaning self.new; answer = result } ≡ write_outcome F.has (view F.meaning self.old) transfer.now }
+        ensures refused_alters_the_fault_alone { OnlyFaulted result (view F.meaning self.old) (view F.meaning self.new) }
     {
         let before = self.registers;
         let path = self.front.path();
