@@ -17,11 +17,11 @@ pub(crate) struct Step {
 
 pub(crate) const START_UP: [Step; 25] = [
     Step {
-        aim: "clear the power_on alert",
+        aim: "clear the power-on alert",
         call: Call::Write(&[0x10, 0x00, 0x02]),
     },
     Step {
-        aim: "clear the power_on fault",
+        aim: "clear the power-on fault",
         call: Call::Write(&[0x1F, 0x80]),
     },
     Step {

@@ -100,7 +100,7 @@ pub record InTen (has : Capabilities) (past : List Call) : Type 0 where
   pub no_end : ((told has before line_finished).ends ≡ []) × NoEnd has later (line_finished ∷ before)
   pub soon : ticks later < 10
 
--- a well_formed GoodCRC of the sending's type and MessageID
+-- a well-formed GoodCRC of the sending's type and MessageID
 pub record GoodCrcOf (number : ℕ) (bytes : List ℕ) (s : Content) : Type 0 where
   pub given : Content
   pub in_range : arrived number bytes ≡ Some given

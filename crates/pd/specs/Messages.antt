@@ -1,4 +1,4 @@
--- A message as what it holds, and which frames are in range and well_formed. Assumes nothing.
+-- A message as what it holds, and which frames are in range and well-formed. Assumes nothing.
 use Rattle.std.specs.Prelude.{ℕ, Bool, cond, ◌&&◌, List, [], length, take, Some, None, Option, nat_le, slice_index}
 use Rattle.pd.specs.declared.header.Header.{Header}
 use Rattle.pd.specs.declared.kind.Kind.{Kind}

@@ -27,7 +27,7 @@ view meaning p = record {
   meaning = meaning p.front;
 }
 
--- every register at its power_on value, no frame, no sending, empty buffers, everything off
+-- every register at its power-on value, no frame, no sending, empty buffers, everything off
 abbrev pub powered_on : ℕ → ℕ → ℕ → View
 powered_on vendor product device = record {
   registers = file.powered_on vendor product device;

@@ -1,4 +1,4 @@
-//! What the register file stores, and its power_on values.
+//! What the register file stores, and its power-on values.
 ghost use Rattle.std.specs.Prelude.{◌≡◌};
 ghost use Rattle.registers.specs.File.{powered_on};
 
