@@ -1,5 +1,4 @@
 -- What the printed outputs stand for. Assumes nothing.
-use Rattle.std.specs.Prelude.{Bool, true, false}
 use Rattle.front_end.specs.Meaning.{Meaning, on_line}
 use Rattle.kiln_head.specs.declared.outputs.Outputs.{Outputs}
 

@@ -1,5 +1,5 @@
 -- What the ledger has kept and told over a run: the calls since power on, the newest first. Assumes nothing.
-use Rattle.std.specs.Prelude.{◌≡◌, List, [], ◌∷◌, ◌++◌, map, Option}
+use Rattle.std.specs.Prelude.{◌≡◌, List, [], ◌∷◌, ◌++◌, Option}
 use Rattle.front_end.specs.declared.parts.Capabilities.{Capabilities}
 use Rattle.pd.specs.Messages.{Content}
 use Rattle.ledger.specs.Calls.{Call}

@@ -1,12 +1,12 @@
 -- What holds of the ledger after every run. Assumes nothing.
-use Rattle.std.specs.Prelude.{◌≡◌, ℕ, zero, suc, ◌+◌, ◌/◌, ◌%◌, ◌<◌, ◌≤◌, Bool, true, false, cond, not, ◌||◌, ◌⊎◌, List, [], ◌∷◌, ◌++◌, map, length, Some, None, ◌==◌, ◌≢◌}
+use Rattle.std.specs.Prelude.{◌≡◌, ℕ, zero, suc, ◌+◌, ◌/◌, ◌%◌, ◌<◌, ◌≤◌, Bool, true, false, cond, not, ◌||◌, ◌⊎◌, List, [], ◌∷◌, ◌++◌, map, length, Some, ◌==◌, ◌≢◌}
 use Rattle.front_end.specs.declared.parts.Capabilities.{Capabilities}
 use Rattle.pd.specs.Headers.{is_good_crc}
 use Rattle.pd.specs.Messages.{Content, header, arrived, well_formed}
 use Rattle.sender.specs.declared.sender.End.{End}
 use Rattle.sender.specs.declared.sender.End.TheVariants.{Succeeded, Failed, Discarded, Signalled}
 use Rattle.ledger.specs.Calls.{Call, wrote, read, levels, vbus, fault, frame, reset_heard, line_finished, tick, ticks}
-use Rattle.ledger.specs.Kept.{Ledger, Under, none, starting, waiting, signalling}
+use Rattle.ledger.specs.Kept.{Under, none, starting, waiting, signalling}
 use Rattle.ledger.specs.Ledger.{Fate, released, dropped, Gone, Ended, taken, carried, busy, hard_resetting, is_message, is_hard_reset, matches, second, most_waiting}
 use Rattle.ledger.specs.History.{after, verdict, told, acknowledged, gone, accepted, ended, frame_of, sending_of, NoEnd}
 

@@ -1,5 +1,5 @@
 -- What does not rise: a refusal alters its fault alone, and a call that alters nothing raises nothing. Assumes nothing.
-use Rattle.std.proofs.Common.{◌≡◌, ℕ, zero, suc, ◌+◌, ◌-◌, ◌*◌, ◌/◌, ◌%◌, ◌^◌, min, Bool, true, false, cond, eqb, Some, None, Ok, Err, Option, Result, sym, refl, ap, ◌∙◌, subst, ap₂, mul_comm, pow-suc, zero-add, arith, eq-eqb}
+use Rattle.std.proofs.Common.{◌≡◌, ℕ, zero, suc, ◌+◌, ◌-◌, ◌*◌, ◌/◌, ◌%◌, ◌^◌, min, Bool, true, false, cond, eqb, Some, None, Ok, Option, Result, sym, refl, ap, ◌∙◌, subst, ap₂, mul_comm, pow-suc, zero-add, arith, eq-eqb}
 use lib.Bits.{bit_and, bit_or, xor_self, or_zero_r, and_zero_r, and_step}
 use Rattle.front_end.specs.declared.parts.Path.{Path}
 use Rattle.registers.specs.Alerts.{faulted, risen}

@@ -1,5 +1,5 @@
 -- What a read's answer tells of the port and of the reader's buffer. Assumes nothing.
-use Rattle.std.proofs.Common.{◌≡◌, ℕ, true, false, List, ◌++◌, drop, is_err, Some, None, Ok, Option, Result, sym, refl, ap, ◌∙◌}
+use Rattle.std.proofs.Common.{◌≡◌, ℕ, true, false, List, ◌++◌, drop, is_err, Some, None, Ok, Option, Result, sym, ap, ◌∙◌}
 use Rattle.transfer.specs.Refusals.{refused_or}
 use Rattle.transfer.specs.declared.refusal.Refusal.{Refusal}
 use Rattle.port.specs.Reads.{filled}

@@ -1,5 +1,5 @@
 -- What a report's answer tells of the port. Assumes nothing.
-use Rattle.std.proofs.Common.{◌≡◌, ℕ, Bool, true, false, cond, not, ◌||◌, eqb, ltb, Some, None, Ok, Err, Option, Result, sym, ap, ◌∙◌, subst}
+use Rattle.std.proofs.Common.{◌≡◌, Bool, true, false, cond, not, ◌||◌, eqb, ltb, Some, None, Err, Option, Result, sym, ap, ◌∙◌, subst}
 use Rattle.registers.specs.Reports.{told, bad_level}
 use Rattle.registers.specs.Status.{terminations_of}
 use Rattle.registers.specs.declared.file.Registers.{Registers}

@@ -1,5 +1,5 @@
 -- What a frame that arrives, and a Hard Reset that is heard, do. Assumes nothing.
-use Rattle.std.specs.Prelude.{ℕ, ◌/◌, ◌%◌, ◌^◌, Bool, true, false, cond, not, ◌&&◌, ◌||◌, List, [], ◌∷◌, ◌++◌, Some, None, Option, ◌==◌, bit_or}
+use Rattle.std.specs.Prelude.{ℕ, ◌/◌, ◌%◌, ◌^◌, Bool, true, false, cond, not, ◌&&◌, List, [], ◌∷◌, ◌++◌, Some, None, Option, ◌==◌, bit_or}
 use Rattle.front_end.specs.Meaning.{Carried, idle, with_line}
 use Rattle.pd.specs.Headers.{message_id, is_good_crc, good_crc}
 use Rattle.pd.specs.Kinds.{number_of}
@@ -10,13 +10,11 @@ use Rattle.receiver.specs.Waiting.{has_room}
 use Rattle.registers.specs.Bits.{set_if, word_without}
 use Rattle.registers.specs.File.{with_alert}
 use Rattle.sender.specs.Life.{awaits}
-use Rattle.sender.specs.Sendings.{Sending, Under, is_under_way, reset_under_way, hard_reset_under_way, discarding, with_under, none}
-use Rattle.sender.specs.declared.sender.End.{End}
+use Rattle.sender.specs.Sendings.{Under, is_under_way, reset_under_way, hard_reset_under_way, discarding, with_under, none}
 use Rattle.sender.specs.declared.sender.End.TheVariants.{Succeeded}
-use Rattle.transfer.specs.declared.refusal.Refusal.{Refusal}
 use Rattle.transfer.specs.declared.refusal.Refusal.TheVariants.{OutOfRange}
 use Rattle.port.specs.Outcomes.{Outcome, outcome, taken_with}
-use Rattle.port.specs.View.{View, with_registers}
+use Rattle.port.specs.View.{View}
 use Rattle.port.specs.declared.answer.Answer.{Answer}
 use Rattle.port.specs.declared.answer.Disposition.TheVariants.{Taken, Ignored}
 

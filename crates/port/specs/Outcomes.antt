@@ -1,9 +1,8 @@
 -- What every call comes to: a view of the port and an answer. Assumes nothing.
-use Rattle.std.specs.Prelude.{◌≡◌, ℕ, ◌-◌, ◌*◌, Bool, cond, Some, None, Ok, Err, Option, Result, bit_and, bit_or}
+use Rattle.std.specs.Prelude.{◌≡◌, ◌-◌, ◌*◌, cond, Some, None, Ok, Err, Option, Result, bit_and, bit_or}
 use Rattle.registers.specs.Alerts.{faulted, settled}
 use Rattle.registers.specs.Bits.{bit, any_of}
 use Rattle.registers.specs.File.{with_alert}
-use Rattle.registers.specs.declared.file.Registers.{Registers}
 use Rattle.sender.specs.declared.sender.End.{End}
 use Rattle.transfer.specs.Refusals.{is_interface_error}
 use Rattle.transfer.specs.declared.refusal.Refusal.{Refusal}

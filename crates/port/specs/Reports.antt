@@ -1,10 +1,8 @@
 -- What a report does. Assumes nothing.
-use Rattle.std.specs.Prelude.{ℕ, cond, Some, None, Option, ◌==◌}
-use Rattle.front_end.specs.declared.parts.Path.{Path}
+use Rattle.std.specs.Prelude.{ℕ, cond, None, Option, ◌==◌}
 use Rattle.front_end.specs.declared.parts.Path.TheVariants as path
 use Rattle.front_end.specs.declared.parts.Vconn.TheVariants as vconn
 use Rattle.registers.specs.Reports.{level_of, levels_refusal, with_levels, vbus_refusal, with_vbus, fault_refusal, with_fault}
-use Rattle.registers.specs.declared.file.Registers.{Registers}
 use Rattle.transfer.specs.declared.refusal.Refusal.{Refusal}
 use Rattle.port.specs.Outcomes.{Outcome, outcome, taken_with}
 use Rattle.port.specs.View.{View, with_registers}

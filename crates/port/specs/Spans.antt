@@ -1,5 +1,5 @@
 -- What Line Finished and a Tick do. Assumes nothing.
-use Rattle.std.specs.Prelude.{ℕ, cond, Some, None, Option, bit_or}
+use Rattle.std.specs.Prelude.{ℕ, Some, None, Option, bit_or}
 use Rattle.front_end.specs.Meaning.{Carried, idle, again_line, with_line}
 use Rattle.registers.specs.File.{with_alert}
 use Rattle.sender.specs.Life.{course, under_after}

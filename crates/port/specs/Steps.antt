@@ -1,19 +1,18 @@
 -- The stations inside a call; no public contract cites them. Assumes nothing.
-use Rattle.std.specs.Prelude.{ℕ, Bool, true, false, cond, not, ◌&&◌, ◌||◌, List, [], ◌∷◌, ◌++◌, length, Some, None, Ok, Err, Option, Result, ◌==◌}
-use Rattle.front_end.specs.Meaning.{has_path, has_vconn, with_line}
+use Rattle.std.specs.Prelude.{ℕ, Bool, false, cond, ◌||◌, List, Some, None, Ok, Err, Option, Result, ◌==◌}
+use Rattle.front_end.specs.Meaning.{with_line}
 use Rattle.front_end.specs.declared.parts.Capabilities.{Capabilities}
 use Rattle.front_end.specs.declared.parts.Path.{Path}
 use Rattle.front_end.specs.declared.parts.Path.TheVariants as path
 use Rattle.front_end.specs.declared.parts.Vconn.TheVariants as vconn
 use Rattle.pd.specs.Messages.{Content}
 use Rattle.receiver.specs.Receiving.{with_armed, after_hard_reset}
-use Rattle.registers.specs.Alerts.{faulted, unmarked, settled, holds_back}
+use Rattle.registers.specs.Alerts.{unmarked, settled, holds_back}
 use Rattle.registers.specs.File.{with_alert}
 use Rattle.registers.specs.Commands.{switches}
 use Rattle.registers.specs.Status.{terminations_of, vconn_of}
 use Rattle.registers.specs.Writes.{detecting, stored, byte_at, value}
 use Rattle.registers.specs.declared.command.Effect.{Effect}
-use Rattle.registers.specs.declared.command.Effect.TheVariants.{Nothing, Detect, Switch, Arm, Empty}
 use Rattle.registers.specs.declared.file.Registers.{Registers}
 use Rattle.registers.specs.declared.reports.Trip.{Trip}
 use Rattle.registers.specs.declared.reports.Trip.TheVariants.{Vconn, Vbus}

@@ -1,5 +1,5 @@
 -- Forms of outcomes and of the ledger's entries that meet. Assumes nothing.
-use Rattle.std.proofs.Common.{◌≡◌, ℕ, zero, suc, ◌+◌, ◌-◌, ◌*◌, ◌/◌, ◌%◌, ◌^◌, ◌<◌, Bool, true, false, cond, not, ◌&&◌, ◌||◌, eqb, List, [], ◌∷◌, Some, None, Ok, Err, Option, sym, refl, ap, ◌∙◌, subst₂, arith}
+use Rattle.std.proofs.Common.{◌≡◌, ℕ, zero, suc, ◌+◌, ◌*◌, ◌/◌, ◌%◌, ◌^◌, ◌<◌, Bool, true, false, cond, ◌&&◌, ◌||◌, eqb, Some, None, Ok, sym, refl, ap, ◌∙◌, arith}
 use lib.Bits.{bit_and, bit_or, or_shr, or_mod, and_shr, and_mod}
 use Rattle.front_end.specs.declared.parts.Path.{Path}
 use Rattle.front_end.specs.declared.parts.Terminations.{Terminations}

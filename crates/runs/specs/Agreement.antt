@@ -1,5 +1,5 @@
 -- How a port's answer and what it holds agree with the ledger of the same calls. Assumes nothing.
-use Rattle.std.specs.Prelude.{◌≡◌, ℕ, Bool, List, [], ◌∷◌, Some, None, Ok, Err, Option, Result}
+use Rattle.std.specs.Prelude.{◌≡◌, ℕ, List, [], ◌∷◌, Some, None, Ok, Err, Option, Result}
 use Rattle.front_end.specs.Meaning.{Carried, idle, sending}
 use Rattle.ledger.specs.Kept.{Ledger, Under, none, starting, waiting, signalling}
 use Rattle.ledger.specs.Ledger.{Verdict, taken, ignored, refused, Ended, Entry, has_bit}

@@ -1,5 +1,5 @@
 -- The life of a sending: what becomes of it by a Tick, by Line Finished and by a GoodCRC. Assumes nothing.
-use Rattle.std.specs.Prelude.{ℕ, ◌-◌, Bool, true, false, cond, ◌&&◌, ◌==◌, nat_lt}
+use Rattle.std.specs.Prelude.{ℕ, ◌-◌, Bool, false, cond, ◌&&◌, ◌==◌, nat_lt}
 use Rattle.pd.specs.Headers.{message_id}
 use Rattle.pd.specs.Kinds.{number_of}
 use Rattle.pd.specs.Messages.{Content, header}

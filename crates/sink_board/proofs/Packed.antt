@@ -1,5 +1,5 @@
 -- Two-bit fields packed into the sink board's code come out again. Assumes nothing.
-use mathlib.Core.Path.{◌≡◌, refl, ◌∙◌, ap}
+use mathlib.Core.Path.{◌≡◌}
 use Prim.Native.Nat.{ℕ, ◌+◌, ◌*◌, ◌/◌, ◌%◌, ◌<◌}
 use native.Mathlib.Omega.{arith}
 use Rattle.front_end.specs.Codes.{termination_code, termination_at, rp_code, rp_at}

@@ -1,4 +1,4 @@
-use Rattle.std.proofs.Common.{◌≡◌, ◌∙◌}
+use Rattle.std.proofs.Common.{◌∙◌}
 use Rattle.port.specs.Reads.{read_refusal, shown, read_outcome, buffer_after}
 use Rattle.port.specs.View.{View, view}
 use Rattle.port.proofs.Chain.{whole}

@@ -1,4 +1,3 @@
-use Rattle.std.proofs.Common.{◌≡◌}
 use Rattle.transfer.specs.Decode.{written}
 use Rattle.transfer.specs.Refusals.{first_holding}
 use Rattle.port.specs.Outcomes.{taken_with}
