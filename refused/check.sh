@@ -28,7 +28,9 @@ replace() {
         END { exit found == 1 ? 0 : 1 }' "$1"
 }
 
-if ! rt check one_owner >accepted.log 2>&1; then
+check() { (cd crates/one_owner && rt check); }
+
+if ! check >accepted.log 2>&1; then
     cat accepted.log
     echo "refused/check.sh: crates/one_owner is not accepted as it stands"
     exit 1
@@ -56,7 +58,7 @@ for edit in "$here"/*.edit; do
     if ! edited kept "$edit" >"$file"; then
         echo "$name: a text to replace does not stand once in $file"
         failed=1
-    elif rt check one_owner >edited.log 2>&1; then
+    elif check >edited.log 2>&1; then
         echo "$name: NOT REFUSED"
         failed=1
     elif grep -qF "error[$says]" edited.log; then
