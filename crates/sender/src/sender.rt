@@ -97,7 +97,7 @@ impl Sender {
     }
 
     /// Ends whatever is under way.
-    pub fn discard(&mut self) -> Option<End>
+    pub(crate) fn discard(&mut self) -> Option<End>
         ensures { record { after = sending_of self.new; ended = result } ≡ discarding (sending_of self.old) }
     {
         if !self.is_under_way() {
@@ -114,13 +114,13 @@ impl Sender {
     }
 
     /// Whether a reset is being signalled.
-    pub fn is_resetting(&self) -> bool
+    pub(crate) fn is_resetting(&self) -> bool
         ensures { result ≡ reset_under_way (sending_of self.now).under }
     {
         matches!(self.state, State::Signalling { .. })
     }
 
-    pub fn hard_reset_under_way(&self) -> bool
+    pub(crate) fn hard_reset_under_way(&self) -> bool
         ensures { result ≡ hard_reset_under_way (sending_of self.now).under }
     {
         self.is_resetting() && is_hard_reset(self.message.kind())
