@@ -4,8 +4,11 @@ dashes to snake case, and types and facts, which begin with a capital, to camel 
 
 A name is renamed if a file of specs/ or proofs/ declares it: as a definition, a lemma, a constructor or a field; so is
 the name of a clause where a proof cites it. Names that Rattle makes for a function's goals (below proofs/F/) keep their
-spelling, as do Rust's names and all texts. A name that now stands beside the same name of something else in a file is
-printed: a definition may be called as the Rust function that it tells of, and fields of two records alike.
+spelling. A name that now stands beside the same name of something else in a file is printed: a definition may be called
+as the Rust function that it tells of, and fields of two records alike.
+
+It goes by whole words: a word of a text or a comment, or a name of the kit's, that is spelled like one of these names
+changes too, and is to be put back by hand.
 """
 
 import os

@@ -1,3 +1,3 @@
-//! The ledger of one port, and what holds of it after every run: every list of calls from power on.
-//! It stands in specs/; each function's contract is one law, and its body does nothing.
+//! The ledger of one port, and what is to hold of it after every run: every list of calls from power on.
+//! Definitions alone, in specs/: no function carries a law yet.
 #![tactic(auto)]
