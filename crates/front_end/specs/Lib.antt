@@ -1,3 +1,5 @@
 pub mod Codes
 pub mod Starts
 pub mod Meaning
+pub mod Lines
+pub mod Words

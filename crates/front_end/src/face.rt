@@ -1,45 +1,36 @@
 //! The trait of every front end: its capabilities, its meaning in four parts, and what alters each part.
 //! Each order alters its own part alone; no order is refused, and a question alters nothing.
 ghost use Rattle.std.specs.Prelude.{◌≡◌};
-ghost use Rattle.pd.specs.Messages.{content};
 ghost use Rattle.front_end.specs.Meaning.{Meaning, Graded, idle, started, again_line, on_line};
 ghost use Rattle.front_end.specs.Meaning.{with_terminations, with_vconn, with_path, with_line};
 ghost use Rattle.front_end.specs.declared.parts.Capabilities.{Capabilities};
 
-use crate::parts::{Capabilities, Line, Path, Terminations, Vconn};
+use crate::line::OnLine;
+use crate::parts::{Capabilities, Path, Terminations, Vconn};
 use pd::Message;
 
 pub trait FrontEnd {
-    const HAS_DEFAULT_SOURCE: bool;
+    /// What this kind of front end can switch, fixed once and for all.
+    const CAPABILITIES: Capabilities;
 
-    const HAS_NONDEFAULT_SOURCE: bool;
-
-    const HAS_SINK: bool;
-
-    const HAS_VCONN: bool;
-
-    ghost has: { Capabilities };
+    ghost CAPABILITIES: { Capabilities };
 
     ghost meaning: { Self → Meaning };
-
-    /// The four constants, as code for every front end reads them.
-    fn capabilities() -> Capabilities
-        ensures { result ≡ has };
 
     fn set_terminations(&mut self, terminations: Terminations)
         ensures { meaning self.new ≡ with_terminations terminations (meaning self.old) };
 
     /// VCONN that it lacks leaves it as it was.
     fn set_vconn(&mut self, vconn: Vconn)
-        ensures { meaning self.new ≡ with_vconn has vconn (meaning self.old) };
+        ensures { meaning self.new ≡ with_vconn CAPABILITIES vconn (meaning self.old) };
 
     /// A path that it lacks leaves it as it was.
     fn set_path(&mut self, path: Path)
-        ensures { meaning self.new ≡ with_path has path (meaning self.old) };
+        ensures { meaning self.new ≡ with_path CAPABILITIES path (meaning self.old) };
 
     /// The sending is on the line with one start, in place of what was there.
     fn send(&mut self, message: &Message)
-        ensures { meaning self.new ≡ with_line (started (content message.now)) (meaning self.old) };
+        ensures { meaning self.new ≡ with_line (started message.now) (meaning self.old) };
 
     /// One start more, up to four; nothing on an idle line.
     fn again(&mut self)
@@ -57,8 +48,9 @@ pub trait FrontEnd {
     fn path(&self) -> Path
         ensures { result ≡ (meaning self.now).path };
 
-    fn line(&self) -> Line
+    /// The sending on the line, lent; none on an idle line.
+    fn line(&self) -> Option<OnLine<'_>>
         ensures { on_line result ≡ (meaning self.now).line };
 
-    ghost nondefault_source_implies_default_source: { Graded has };
+    ghost nondefault_source_implies_default_source: { Graded CAPABILITIES };
 }

@@ -3,7 +3,10 @@
 #![tactic(auto)]
 
 mod face;
+mod line;
 mod parts;
+mod words;
 
 pub use face::FrontEnd;
-pub use parts::{Capabilities, Line, Path, RpValue, Termination, Terminations, Vconn};
+pub use line::{BoardLine, MOST_STARTS, OnLine, Starts};
+pub use parts::{Capabilities, Path, RpValue, Termination, Terminations, Vconn};

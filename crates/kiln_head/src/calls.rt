@@ -1,68 +1,35 @@
-//! Calls and their answers in words.
+//! Calls and what they give, in words.
 use crate::script::Call;
 use front_end::FrontEnd;
-use port::{Answer, Port, Report};
-use sender::End;
+use port::{Answer, Port};
 use std::fmt;
 use transfer::Refusal;
 
-/// As many bytes as a read of a byte or a word gives.
-const WORD: usize = 2;
-
-/// What came of a call.
+/// What a call gives that is not refused.
 #[derive(Clone, Copy)]
-pub(crate) enum Outcome {
-    Answered(Answer),
-    Shown { bytes: [u8; WORD], count: usize },
-    Refused(Refusal),
+pub(crate) enum Reply {
+    Taken(Answer),
+    Byte(u8),
+    Word(u16),
+}
+
+fn read<F: FrontEnd>(port: &mut Port<F>, register: u8, wanted: usize) -> Result<Reply, Refusal> {
+    let mut bytes = [0; 2];
+    let count = port.read(register, wanted, &mut bytes)?;
+    let [low, _] = bytes;
+    Ok(if count == 1 {
+        Reply::Byte(low)
+    } else {
+        Reply::Word(u16::from_le_bytes(bytes))
+    })
 }
 
 /// Makes the call.
-pub(crate) fn make<F: FrontEnd>(port: &mut Port<F>, call: Call) -> Outcome {
-    let answered = match call {
-        Call::Write(bytes) => port.write(bytes),
-        Call::Report(report) => port.report(report),
-        Call::Read { register, wanted } => {
-            let mut bytes = [0; WORD];
-            return match port.read(register, wanted, &mut bytes) {
-                Ok(count) => Outcome::Shown { bytes, count },
-                Err(refusal) => Outcome::Refused(refusal),
-            };
-        }
-    };
-    match answered {
-        Ok(answer) => Outcome::Answered(answer),
-        Err(refusal) => Outcome::Refused(refusal),
-    }
-}
-
-fn reason(refusal: Refusal) -> &'static str {
-    match refusal {
-        Refusal::NoRegister => "no register byte",
-        Refusal::NotListed => "address not listed",
-        Refusal::WrongDirection => "direction not listed",
-        Refusal::WrongLength => "bytes not as listed",
-        Refusal::WrongCount => "count unlike the bytes after it",
-        Refusal::BufferOverrun => "transmit buffer would pass 30 bytes",
-        Refusal::UnknownCommand => "unknown COMMAND value",
-        Refusal::UnknownType => "sending of type 7",
-        Refusal::LacksCapability => "capability lacking",
-        Refusal::NeedNotMet => "what the command needs is not so",
-        Refusal::NothingToSend => "under 2 bytes to send",
-        Refusal::SendingUnderWay => "a sending is under way",
-        Refusal::ReaderTooShort => "reader's buffer below the bytes wanted",
-        Refusal::OutOfRange => "reported value or length outside its range",
-        Refusal::NotOnTheLine => "nothing on the line that could finish",
-    }
-}
-
-fn end_word(ended: Option<End>) -> &'static str {
-    match ended {
-        None => "",
-        Some(End::Succeeded) => ", a sending succeeded",
-        Some(End::Failed) => ", a sending failed",
-        Some(End::Discarded) => ", a sending was discarded",
-        Some(End::Signalled) => ", a reset was signalled",
+pub(crate) fn make<F: FrontEnd>(port: &mut Port<F>, call: Call) -> Result<Reply, Refusal> {
+    match call {
+        Call::Write(bytes) => Ok(Reply::Taken(port.write(bytes)?)),
+        Call::Report(report) => Ok(Reply::Taken(port.report(report)?)),
+        Call::Read { register, wanted } => read(port, register, wanted),
     }
 }
 
@@ -77,33 +44,36 @@ impl fmt::Display for Call {
                 write!(f, " ]")
             }
             Call::Read { register, wanted } => write!(f, "read {wanted} at {register:02X}h"),
-            Call::Report(Report::CcLevels { cc1, cc2 }) => write!(f, "CC levels {cc1} and {cc2}"),
-            Call::Report(Report::Vbus(number)) => write!(f, "VBUS {number}"),
-            Call::Report(Report::Fault(number)) => write!(f, "fault {number}"),
+            Call::Report(report) => write!(f, "{report}"),
         }
     }
 }
 
-impl fmt::Display for Outcome {
+/// The outcome of a call, to be printed.
+#[derive(Clone, Copy)]
+pub(crate) struct Told(pub(crate) Result<Reply, Refusal>);
+
+impl fmt::Display for Told {
+    fn fmt<W: fmt::Write>(&self, f: &mut fmt::Formatter<W>) -> fmt::Result {
+        match self.0 {
+            Ok(reply) => write!(f, "{reply}"),
+            Err(refusal) => write!(f, "refused with {}, {refusal}", u8::from(refusal)),
+        }
+    }
+}
+
+impl fmt::Display for Reply {
     fn fmt<W: fmt::Write>(&self, f: &mut fmt::Formatter<W>) -> fmt::Result {
         match self {
-            Outcome::Answered(answer) => {
-                let end = end_word(answer.ended);
-                write!(f, "taken{end}")
-            }
-            Outcome::Shown { bytes, count } => {
-                let [low, high] = *bytes;
-                if *count == 1 {
-                    write!(f, "{low:02X}h")
-                } else {
-                    write!(f, "{high:02X}{low:02X}h")
+            Reply::Taken(answer) => {
+                write!(f, "taken")?;
+                match answer.ended {
+                    Some(end) => write!(f, ", {end}"),
+                    None => Ok(()),
                 }
             }
-            Outcome::Refused(refusal) => {
-                let number = refusal.number();
-                let reason = reason(*refusal);
-                write!(f, "refused with {number}, {reason}")
-            }
+            Reply::Byte(byte) => write!(f, "{byte:02X}h"),
+            Reply::Word(word) => write!(f, "{word:04X}h"),
         }
     }
 }

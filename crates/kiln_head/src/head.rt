@@ -1,18 +1,23 @@
 //! A head from the state in which it is found to power off, each step printed.
-use crate::calls::make;
+use crate::calls::{Told, make};
 use crate::outputs::Outputs;
-use crate::script::START_UP;
+use crate::script::{Call, START_UP, Step};
 use front_end::{FrontEnd, Path};
 use pd::{Kind, Message};
-use port::Port;
+use port::{Identifiers, Port};
 use std::io;
 use transfer::address;
 
-const VENDOR: u16 = 0x1FC9;
+const IDENTIFIERS: Identifiers = Identifiers {
+    vendor: 0x1FC9,
+    product: 0x0051,
+    device: 0x0001,
+};
 
-const PRODUCT: u16 = 0x0051;
-
-const DEVICE: u16 = 0x0001;
+const READ_ALERT: Call = Call::Read {
+    register: address::ALERT,
+    wanted: 2,
+};
 
 /// What a service technician left behind: the path on and a sending on the line.
 fn switch_by_hand<F: FrontEnd>(front: &mut F) {
@@ -23,42 +28,41 @@ fn switch_by_hand<F: FrontEnd>(front: &mut F) {
 
 /// ALERT, the pin and what the front end shows.
 fn print_state<F: FrontEnd>(rt: &HostRuntime, port: &mut Port<F>) -> io::Result<()> {
-    let mut alert = [0; 2];
-    let _ = port.read(address::ALERT, 2, &mut alert);
-    let alert = u16::from_le_bytes(alert);
+    let alert = Told(make(port, READ_ALERT));
     let pin = if port.alert_asserted() {
         "asserted"
     } else {
         "released"
     };
     let outputs = Outputs::of(port.front());
-    println!(rt; "    ALERT {alert:04X}h, Alert# {pin}; {outputs}")
+    println!(rt; "    ALERT {alert}, Alert# {pin}; {outputs}")
 }
 
 /// The script, call by call.
 fn play_script<F: FrontEnd>(rt: &HostRuntime, port: &mut Port<F>) -> io::Result<()> {
-    for step in START_UP {
-        let outcome = make(port, step.call);
-        let aim = step.aim;
-        let call = step.call;
-        println!(rt; "  {aim}: {call}: {outcome}")?;
+    for Step { aim, call } in START_UP {
+        let told = Told(make(port, call));
+        println!(rt; "  {aim}: {call}: {told}")?;
         print_state(rt, port)?;
     }
     Ok(())
 }
 
-pub(crate) fn run<F: FrontEnd + Drop>(
-    rt: &HostRuntime,
-    name: &str,
-    mut front: F,
-) -> io::Result<()> {
+/// A head on a board of this kind.
+pub(crate) fn run<F: FrontEnd + Default + Drop>(rt: &HostRuntime, name: &str) -> io::Result<()> {
+    let mut front = F::default();
     switch_by_hand(&mut front);
     let found = Outputs::of(&front);
     println!(rt; "{name}, as found: {found}")?;
+    let Identifiers {
+        vendor,
+        product,
+        device,
+    } = IDENTIFIERS;
     println!(rt;
-        "powered on as vendor {VENDOR:04X}h, product {PRODUCT:04X}h, device {DEVICE:04X}h"
+        "powered on as vendor {vendor:04X}h, product {product:04X}h, device {device:04X}h"
     )?;
-    let mut port = Port::power_on(front, VENDOR, PRODUCT, DEVICE);
+    let mut port = Port::power_on(front, IDENTIFIERS);
     let first = print_state(rt, &mut port);
     let script = play_script(rt, &mut port);
     let front = port.power_off();

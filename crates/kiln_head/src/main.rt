@@ -11,7 +11,7 @@ use sink_board::SinkBoard;
 use std::io;
 
 fn main(rt: HostRuntime) -> io::Result<()> {
-    head::run(&rt, "relay board", RelayBoard::new())?;
+    head::run::<RelayBoard>(&rt, "relay board")?;
     println!(rt; "")?;
-    head::run(&rt, "sink board", SinkBoard::new())
+    head::run::<SinkBoard>(&rt, "sink board")
 }

@@ -1,11 +1,12 @@
 -- The ledger of one port: what it says of each call, and how the call alters it. Fed the calls alone; knows the capabilities. Assumes nothing.
-use Rattle.std.specs.Prelude.{ℕ, ◌+◌, ◌-◌, ◌/◌, ◌%◌, ◌^◌, Bool, true, false, cond, not, ◌&&◌, ◌||◌, ltb, List, [], ◌∷◌, ◌++◌, length, take, drop, Some, None, Option, ◌==◌, nat_eq, nat_le, nat_lt, slice_index}
+use Rattle.std.specs.Prelude.{ℕ, ◌+◌, ◌-◌, ◌/◌, ◌%◌, ◌^◌, Bool, true, false, cond, not, ◌&&◌, ◌||◌, List, [], ◌∷◌, ◌++◌, length, take, drop, Some, None, Option, ◌==◌, nat_eq, nat_le, nat_lt, slice_index}
 use Rattle.front_end.specs.declared.parts.Capabilities.{Capabilities}
 use Rattle.front_end.specs.declared.parts.Path.{Path}
 use Rattle.front_end.specs.declared.parts.Path.TheVariants as path
 use Rattle.pd.specs.Headers.{message_id, is_good_crc, good_crc}
 use Rattle.pd.specs.Kinds.{number_of, kind_at}
-use Rattle.pd.specs.Messages.{Content, header, arrived}
+use Rattle.pd.specs.Messages.{header, arrived}
+use Rattle.pd.specs.declared.message.Message.{Message}
 use Rattle.pd.specs.declared.header.Header.{Header}
 use Rattle.pd.specs.declared.kind.Kind.{Kind}
 use Rattle.sender.specs.declared.sender.End.{End}
@@ -26,18 +27,18 @@ pub data Fate : Type 0 where
 -- a frame that is gone, with its fate
 pub record Gone : Type 0 where
   pub fate : Fate
-  pub frame : Content
+  pub frame : Message
 
 -- a sending that ended, with its end
 pub record Ended : Type 0 where
   pub end : End
-  pub sending : Content
+  pub sending : Message
 
 -- the sendings accepted and ended in a call, the frames acknowledged and gone in it, and the GoodCRC given
 pub record Told : Type 0 where
-  pub accepts : List Content
+  pub accepts : List Message
   pub ends : List Ended
-  pub acks : List Content
+  pub acks : List Message
   pub gives : Option Header
   pub goes : List Gone
 
@@ -79,17 +80,17 @@ judged [] e l = e
 judged (r ∷ rs) e l = cond r.holds (stays (refused r.number) l) (judged rs e l)
 
 -- the sending under way, if any
-abbrev pub carried : Under → List Content
+abbrev pub carried : Under → List Message
 carried none = []
 carried (starting s retries starts left) = s ∷ []
 carried (waiting s retries starts left) = s ∷ []
 carried (signalling s left) = s ∷ []
 
-abbrev pub ended_as : End → List Content → List Ended
+abbrev pub ended_as : End → List Message → List Ended
 ended_as e [] = []
 ended_as e (s ∷ ss) = record { end = e; sending = s } ∷ ended_as e ss
 
-abbrev pub gone_as : Fate → List Content → List Gone
+abbrev pub gone_as : Fate → List Message → List Gone
 gone_as f [] = []
 gone_as f (x ∷ xs) = record { fate = f; frame = x } ∷ gone_as f xs
 
@@ -97,7 +98,7 @@ gone_as f (x ∷ xs) = record { fate = f; frame = x } ∷ gone_as f xs
 abbrev pub ends_as : End → Ledger → Entry
 ends_as e l = record {
   verdict = Some taken;
-  told = record { accepts = []; ends = ended_as e (carried l.under); acks = []; gives = None; goes = [] };
+  told = record nothing { ends = ended_as e (carried l.under) };
   next = with_under none l;
 }
 
@@ -155,7 +156,7 @@ abbrev pub reset : Ledger → Ledger
 reset l = with_frames [] (with_frame_alert false (with_detect 0x00 (with_armed false l)))
 
 -- what is accepted: a message has the buffered bytes, a reset none
-abbrev pub sent : Kind → Ledger → Content
+abbrev pub sent : Kind → Ledger → Message
 sent k l = record { kind = k; bytes = cond (is_message k) l.buffer [] }
 
 -- a message empties the transmit buffer
@@ -163,14 +164,14 @@ abbrev pub after_sent : Kind → Ledger → Ledger
 after_sent k l = with_buffer (cond (is_message k) [] l.buffer) l
 
 -- a message has 20 Ticks in its first start, a reset 50 to be signalled
-abbrev pub begun : Content → ℕ → Under
+abbrev pub begun : Message → ℕ → Under
 begun s retries = cond (is_message s.kind) (starting s retries 1 20) (signalling s 50)
 
 -- a Hard Reset discards what is under way and drops the waiting frames
 abbrev pub accepts_hard_reset : Kind → Ledger → Entry
 accepts_hard_reset k l = record {
   verdict = Some taken;
-  told = record { accepts = sent k l ∷ []; ends = ended_as Discarded (carried l.under); acks = []; gives = None; goes = gone_as dropped l.frames };
+  told = record nothing { accepts = sent k l ∷ []; ends = ended_as Discarded (carried l.under); goes = gone_as dropped l.frames };
   next = with_under (signalling (sent k l) 50) (reset l);
 }
 
@@ -178,7 +179,7 @@ accepts_hard_reset k l = record {
 abbrev pub accepts_and_discards : Kind → Ledger → Entry
 accepts_and_discards k l = record {
   verdict = Some taken;
-  told = record { accepts = sent k l ∷ []; ends = ended_as Discarded (sent k l ∷ []); acks = []; gives = None; goes = [] };
+  told = record nothing { accepts = sent k l ∷ []; ends = ended_as Discarded (sent k l ∷ []) };
   next = after_sent k l;
 }
 
@@ -186,7 +187,7 @@ accepts_and_discards k l = record {
 abbrev pub accepts_and_begins : Kind → ℕ → Ledger → Entry
 accepts_and_begins k retries l = record {
   verdict = Some taken;
-  told = record { accepts = sent k l ∷ []; ends = []; acks = []; gives = None; goes = [] };
+  told = record nothing { accepts = sent k l ∷ [] };
   next = with_under (begun (sent k l) retries) (after_sent k l);
 }
 
@@ -217,7 +218,7 @@ second t = slice_index t 1 % 256
 abbrev pub cleared : ℕ → Ledger → Entry
 cleared ones l = record {
   verdict = Some taken;
-  told = record { accepts = []; ends = []; acks = []; gives = None; goes = cond (has_bit 2 ones) (gone_as released (take 1 l.frames)) [] };
+  told = record nothing { goes = cond (has_bit 2 ones) (gone_as released (take 1 l.frames)) [] };
   next = with_reset_alert (l.reset_alert && not (has_bit 3 ones))
       (cond (has_bit 2 ones) (with_frame_alert (nat_lt 1 (length l.frames)) (with_frames (drop 1 l.frames) l)) l);
 }
@@ -239,7 +240,7 @@ write_buffer t l =
     judged
     ((4 when nat_eq (length t) 1) ∷
     (5 when not (slice_index t 1 == length t - 2)) ∷
-    (6 when ltb 30 (length l.buffer + (length t - 2))) ∷ [])
+    (6 when nat_lt 30 (length l.buffer + (length t - 2))) ∷ [])
     (becomes (with_buffer (l.buffer ++ drop 2 t) l)) l
 
 abbrev pub command : Capabilities → ℕ → Ledger → Entry
@@ -265,38 +266,32 @@ writes has t l =
 -- ---- the rules of frames
 
 -- a GoodCRC of a message's type and MessageID
-abbrev pub matches : Content → Content → Bool
+abbrev pub matches : Message → Message → Bool
 matches c s = number_of c.kind == number_of s.kind && message_id (header c.bytes) == message_id (header s.bytes)
 
-abbrev pub good_crc_heard : Content → Under → Ledger → Entry
+abbrev pub good_crc_heard : Message → Under → Ledger → Entry
 good_crc_heard c none l = stays ignored l
 good_crc_heard c (starting s retries starts left) l = stays ignored l
 good_crc_heard c (waiting s retries starts left) l = cond (matches c s) (ends_as Succeeded l) (stays ignored l)
 good_crc_heard c (signalling s left) l = stays ignored l
 
 -- an acknowledged frame waits, newest last, and discards a message under way; RxOneMore, if armed, is spent
-abbrev pub acknowledges : Content → Ledger → Entry
+abbrev pub acknowledges : Message → Ledger → Entry
 acknowledges c l = record {
   verdict = Some taken;
-  told = record {
-    accepts = [];
-    ends = ended_as Discarded (carried l.under);
-    acks = c ∷ [];
-    gives = Some (good_crc l.info c.kind (header c.bytes));
-    goes = [];
-  };
+  told = record nothing { ends = ended_as Discarded (carried l.under); acks = c ∷ []; gives = Some (good_crc l.info c.kind (header c.bytes)) };
   next = with_under none (with_frame_alert true (with_frames (l.frames ++ (c ∷ [])) (with_armed false (with_detect (cond l.armed 0x00 l.detect) l))));
 }
 
 -- a frame is enabled if the RECEIVE_DETECT bit with the number of its type is 1
-abbrev pub enabled : Content → Ledger → Bool
+abbrev pub enabled : Message → Ledger → Bool
 enabled c l = has_bit (number_of c.kind) l.detect
 
-abbrev pub message_heard : Content → Ledger → Entry
+abbrev pub message_heard : Message → Ledger → Entry
 message_heard c l =
     cond (not (enabled c l) || resetting l.under || not (nat_lt (length l.frames) most_waiting)) (stays ignored l) (acknowledges c l)
 
-abbrev pub frame_heard : Option Content → Ledger → Entry
+abbrev pub frame_heard : Option Message → Ledger → Entry
 frame_heard None l = stays (refused 14) l
 frame_heard (Some c) l = cond (is_good_crc (header c.bytes)) (good_crc_heard c l.under l) (message_heard c l)
 
@@ -307,7 +302,7 @@ reset_is_heard l =
     cond (not (has_bit 5 l.detect) || hard_resetting l.under) (stays ignored l)
     (record {
       verdict = Some taken;
-      told = record { accepts = []; ends = ended_as Discarded (carried l.under); acks = []; gives = None; goes = gone_as dropped l.frames };
+      told = record nothing { ends = ended_as Discarded (carried l.under); goes = gone_as dropped l.frames };
       next = with_under none (with_reset_alert true (reset l));
     })
 
@@ -323,7 +318,7 @@ faults n l =
     judged ((14 when not (n == 1 || n == 2 || n == 3 || n == 6)) ∷ []) (becomes (with_path (cond (n == 1) l.path path.Off) l)) l
 
 -- a span's last Tick: again while retries are left, else failed
-abbrev pub runs_out : Content → ℕ → ℕ → Ledger → Entry
+abbrev pub runs_out : Message → ℕ → ℕ → Ledger → Entry
 runs_out s retries starts l = cond (retries == 0) (ends_as Failed l) (becomes (with_under (starting s (retries - 1) (starts + 1) 20) l))
 
 abbrev pub ticks_on : Under → Ledger → Entry

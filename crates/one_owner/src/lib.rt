@@ -6,19 +6,27 @@ ghost use Rattle.std.specs.Prelude.{◌≡◌};
 ghost use Rattle.front_end.specs.Meaning.{safe};
 
 use front_end::FrontEnd;
-use port::Port;
+use port::{Identifiers, Port};
 
 /// COMMAND 33h: start VBUS detection.
 const DETECT_VBUS: [u8; 2] = [0x23, 0x33];
+
+const FIRST: Identifiers = Identifiers {
+    vendor: 1,
+    product: 2,
+    device: 3,
+};
+
+const SECOND: Identifiers = Identifiers { device: 4, ..FIRST };
 
 /// Powered on, written to, powered off, and the same again with the front end that came back.
 pub fn power_cycle<F: FrontEnd>(front: F) -> F
     ensures { F.meaning result ≡ safe }
 {
-    let mut port = Port::power_on(front, 1, 2, 3);
+    let mut port = Port::power_on(front, FIRST);
     let _ = port.write(&DETECT_VBUS);
     let front = port.power_off();
-    let mut port = Port::power_on(front, 1, 2, 3);
+    let mut port = Port::power_on(front, FIRST);
     let _ = port.write(&DETECT_VBUS);
     port.power_off()
 }
@@ -27,7 +35,7 @@ pub fn power_cycle<F: FrontEnd>(front: F) -> F
 pub fn side_by_side<F: FrontEnd>(left: F, right: F) -> (F, F)
     ensures { (F.meaning result.0 ≡ safe) × (F.meaning result.1 ≡ safe) }
 {
-    let first = Port::power_on(left, 1, 2, 3);
-    let second = Port::power_on(right, 1, 2, 4);
+    let first = Port::power_on(left, FIRST);
+    let second = Port::power_on(right, SECOND);
     (first.power_off(), second.power_off())
 }

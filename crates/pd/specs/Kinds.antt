@@ -1,7 +1,8 @@
 -- The kinds of what is sent and received, and their numbers. Assumes nothing.
-use Rattle.std.specs.Prelude.{ℕ, cond, Some, None, Option, ◌==◌}
+use Rattle.std.specs.Prelude.{◌≡◌, ℕ, Bool, cond, Some, None, Ok, Err, Option, Result, ◌==◌, nat_le}
 use Rattle.pd.specs.declared.kind.Kind.{Kind}
 use Rattle.pd.specs.declared.kind.Kind.TheVariants.{Sop, SopPrime, SopDoublePrime, SopDebugPrime, SopDebugDoublePrime, HardReset, CableReset}
+use Rattle.pd.specs.declared.kind.UnknownKind.{UnknownKind}
 
 abbrev pub number_of : Kind → ℕ
 number_of Sop = 0
@@ -22,3 +23,18 @@ kind_at n =
     (cond (n == 4) (Some SopDebugDoublePrime)
     (cond (n == 5) (Some HardReset)
     (cond (n == 6) (Some CableReset) None))))))
+
+abbrev pub or_unknown : Option Kind → Result Kind UnknownKind
+or_unknown (Some k) = Ok k
+or_unknown None = Err (record {})
+
+-- what a number is converted to: its kind, or the error that there is none
+abbrev pub Numbered : ℕ → Result Kind UnknownKind → Type 0
+Numbered n r = r ≡ or_unknown (kind_at n)
+
+-- a message has bytes; the others are resets, without bytes
+abbrev pub is_message : ℕ → Bool
+is_message number = nat_le number 4
+
+abbrev pub is_hard_reset : ℕ → Bool
+is_hard_reset number = number == 5

@@ -1,4 +1,6 @@
 pub mod Lengths
+pub mod Room
+pub mod Texts
 pub mod Kinds
 pub mod Headers
 pub mod Messages

@@ -6,7 +6,7 @@ ghost use Rattle.pd.specs.Headers.{message_id, is_good_crc, good_crc};
 use crate::bits::{above, field};
 use crate::kind::Kind;
 
-#[derive(Clone, Copy)]
+#[derive(Clone, Copy, Debug, PartialEq, Eq)]
 pub struct Header {
     pub low: u8,
     pub high: u8,

@@ -1,4 +1,3 @@
-pub mod Chain
-pub mod Quiet
-pub mod Reading
-pub mod Reporting
+pub mod Cases
+pub mod Settling
+pub mod Writing

@@ -1,3 +1,4 @@
+pub mod Texts
 pub mod View
 pub mod Outcomes
 pub mod Writes

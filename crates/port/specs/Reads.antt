@@ -7,12 +7,13 @@ use Rattle.transfer.specs.Decode.{read_rows}
 use Rattle.transfer.specs.Refusals.{first_holding}
 use Rattle.transfer.specs.declared.refusal.Refusal.{Refusal}
 use Rattle.port.specs.Outcomes.{Outcome, outcome}
+use Rattle.port.specs.Writes.{front_of}
 use Rattle.port.specs.View.{View}
 
 -- the value of a register of a byte or a word
 abbrev pub value_of : Capabilities → View → ℕ → ℕ
 value_of has v a =
-    content_at a ((0x2E reads v.receiving.info) ∷ (0x2F reads v.receiving.detect) ∷ contents has v.meaning.path v.registers)
+    content_at a ((0x2E reads v.receiving.info) ∷ (0x2F reads v.receiving.detect) ∷ contents (front_of has v) v.registers)
 
 -- low byte first
 abbrev pub low_first : ℕ → List ℕ

@@ -18,16 +18,9 @@ report_refusal v (Fault n) = fault_refusal n
 
 -- all that a port holds after a fault: its FAULT_STATUS bit set; VCONN off by fault 1, the path off by the others
 abbrev pub after_fault : ℕ → View → View
-after_fault n v = record {
+after_fault n v = record v {
   registers = with_fault n v.registers;
-  receiving = v.receiving;
-  sending = v.sending;
-  meaning = record {
-    terminations = v.meaning.terminations;
-    vconn = cond (n == 1) vconn.Off v.meaning.vconn;
-    path = cond (n == 1) v.meaning.path path.Off;
-    line = v.meaning.line;
-  };
+  meaning = record v.meaning { vconn = cond (n == 1) vconn.Off v.meaning.vconn; path = cond (n == 1) v.meaning.path path.Off };
 }
 
 -- all that a port holds after a taken report; ALERT bits 0, 1 and 9 rise after it

@@ -5,7 +5,7 @@ use Rattle.registers.specs.File.{with_alert}
 use Rattle.sender.specs.Life.{course, under_after}
 use Rattle.sender.specs.Sendings.{with_under}
 use Rattle.sender.specs.declared.sender.life.Course.{Course}
-use Rattle.sender.specs.declared.sender.life.Course.TheVariants.{Unmoved, GoesOn, StartsAgain, Ended}
+use Rattle.sender.specs.declared.sender.life.Course.TheVariants.{GoesOn, StartsAgain, Ended}
 use Rattle.sender.specs.declared.sender.life.Event.{Event}
 use Rattle.sender.specs.declared.sender.life.Event.TheVariants.{Tick, LineFinished}
 use Rattle.sender.specs.declared.sender.End.{End}
@@ -24,38 +24,35 @@ end_bits Discarded = 0x0020
 end_bits Signalled = 0x0050
 
 -- how a course ends, if it does
-abbrev pub end_of : Course → Option End
-end_of Unmoved = None
-end_of GoesOn = None
-end_of StartsAgain = None
-end_of (Ended e) = Some e
+abbrev pub end_of : Option Course → Option End
+end_of None = None
+end_of (Some GoesOn) = None
+end_of (Some StartsAgain) = None
+end_of (Some (Ended e)) = Some e
 
 abbrev pub alert_with : Option End → ℕ → ℕ
 alert_with None alert = alert
 alert_with (Some e) alert = bit_or alert (end_bits e)
 
 -- the line: one start more, or idle after an end
-abbrev pub line_by : Course → Carried → Carried
-line_by Unmoved line = line
-line_by GoesOn line = line
-line_by StartsAgain line = again_line line
-line_by (Ended e) line = idle
+abbrev pub line_by : Option Course → Carried → Carried
+line_by None line = line
+line_by (Some GoesOn) line = line
+line_by (Some StartsAgain) line = again_line line
+line_by (Some (Ended e)) line = idle
 
 -- all that a port holds after an event of its sending
-abbrev pub after_event : Event → Course → View → View
-after_event e k v = record {
+abbrev pub after_event : Event → Option Course → View → View
+after_event e k v = record v {
   registers = with_alert (alert_with (end_of k) v.registers.alert) v.registers;
-  receiving = v.receiving;
   sending = with_under (under_after k e v.sending.under) v.sending;
   meaning = with_line (line_by k v.meaning.line) v.meaning;
 }
 
 -- Line Finished is refused where it concerns nothing
-abbrev pub finish_refusal : Course → Option Refusal
-finish_refusal Unmoved = Some NotOnTheLine
-finish_refusal GoesOn = None
-finish_refusal StartsAgain = None
-finish_refusal (Ended e) = None
+abbrev pub finish_refusal : Option Course → Option Refusal
+finish_refusal None = Some NotOnTheLine
+finish_refusal (Some k) = None
 
 unfoldable pub finish_outcome : View → Outcome Answer
 finish_outcome v =

@@ -1,19 +1,20 @@
 -- The stations inside a call; no public contract cites them. Assumes nothing.
-use Rattle.std.specs.Prelude.{ℕ, Bool, false, cond, ◌||◌, List, Some, None, Ok, Err, Option, Result, ◌==◌}
+use Rattle.std.specs.Prelude.{ℕ, false, cond, ◌||◌, List, Some, None, Ok, Err, Option, Result}
+use Rattle.front_end.specs.Codes.{terminations_of}
 use Rattle.front_end.specs.Meaning.{with_line}
 use Rattle.front_end.specs.declared.parts.Capabilities.{Capabilities}
-use Rattle.front_end.specs.declared.parts.Path.{Path}
 use Rattle.front_end.specs.declared.parts.Path.TheVariants as path
 use Rattle.front_end.specs.declared.parts.Vconn.TheVariants as vconn
-use Rattle.pd.specs.Messages.{Content}
+use Rattle.pd.specs.Kinds.{is_hard_reset}
+use Rattle.pd.specs.declared.message.Message.{Message}
 use Rattle.receiver.specs.Receiving.{with_armed, after_hard_reset}
 use Rattle.registers.specs.Alerts.{unmarked, settled, holds_back}
 use Rattle.registers.specs.File.{with_alert}
 use Rattle.registers.specs.Commands.{switches}
-use Rattle.registers.specs.Status.{terminations_of, vconn_of}
+use Rattle.registers.specs.Status.{vconn_of}
 use Rattle.registers.specs.Writes.{detecting, stored, byte_at, value}
+use Rattle.registers.specs.declared.alerts.Before.{Before}
 use Rattle.registers.specs.declared.command.Effect.{Effect}
-use Rattle.registers.specs.declared.file.Registers.{Registers}
 use Rattle.registers.specs.declared.reports.Trip.{Trip}
 use Rattle.registers.specs.declared.reports.Trip.TheVariants.{Vconn, Vbus}
 use Rattle.sender.specs.Sendings.{with_buffer}
@@ -28,12 +29,12 @@ use Rattle.port.specs.Writes.{arms, empties, told_path, told_vconn, hard_resets,
 use Rattle.port.specs.declared.answer.Answer.{Answer}
 
 -- the fault and the alerts, at the end of every call, from the registers and the path before it
-abbrev pub settled_from : Registers → Path → View → View
-settled_from before p v = with_registers (settled before p v.registers v.meaning.path) v
+abbrev pub settled_from : Before → View → View
+settled_from before v = with_registers (settled before.registers before.path v.registers v.meaning.path) v
 
-abbrev pub concluded : {A : Type 0} → Registers → Path → Result A Refusal → View → View
-concluded before p (Ok a) v = settled_from before p v
-concluded before p (Err r) v = settled_from before p (faulted_by r v)
+abbrev pub concluded : {A : Type 0} → Before → Result A Refusal → View → View
+concluded before (Ok a) v = settled_from before v
+concluded before (Err r) v = settled_from before (faulted_by r v)
 
 -- a call before the fault and the alerts
 abbrev pub unsettled : {A : Type 0} → Option Refusal → View → A → View → Outcome A
@@ -41,17 +42,12 @@ unsettled (Some r) after answer before = record { view = before; answer = Err r 
 unsettled None after answer before = record { view = after; answer = Ok answer }
 
 -- an effect obeyed
-abbrev pub obeyed : Capabilities → Effect → View → View
+abbrev pub obeyed : Capabilities → Option Effect → View → View
 obeyed has e v = record {
   registers = detecting e v.registers;
   receiving = with_armed (arms e v.receiving.armed) v.receiving;
   sending = with_buffer (empties e v.sending.buffer) v.sending;
-  meaning = record {
-    terminations = v.meaning.terminations;
-    vconn = v.meaning.vconn;
-    path = told_path has (switches e) v.meaning.path;
-    line = v.meaning.line;
-  };
+  meaning = record v.meaning { path = told_path has (switches e) v.meaning.path };
 }
 
 -- a view, and how a sending ended
@@ -65,9 +61,9 @@ without_end v = record { view = v; ended = None }
 -- a Hard Reset to be sent: reception is reset, ALERT bit 2 falls
 abbrev pub reset_by : ℕ → View → View
 reset_by value v =
-    cond (type_of value == 5) (with_receiving (after_hard_reset v.receiving) (with_registers (unmarked 4 v.registers) v)) v
+    cond (is_hard_reset (type_of value)) (with_receiving (after_hard_reset v.receiving) (with_registers (unmarked 4 v.registers) v)) v
 
-abbrev pub on_line_after : Option Content → View → View
+abbrev pub on_line_after : Option Message → View → View
 on_line_after started v = with_meaning (with_line (line_after started v.meaning.line) v.meaning) v
 
 -- an end that a write tells is a discard
@@ -75,9 +71,9 @@ abbrev pub discard_noted : Option End → View → View
 discard_noted ended v = with_registers (with_alert (with_discard ended v.registers.alert) v.registers) v
 
 -- what a taken request does beside the registers that it stores
-abbrev pub reacted : Capabilities → Asked → Bool → View → Ended
-reacted has w held v =
-    let t = transmission w held v.sending in
+abbrev pub reacted : Capabilities → Asked → View → Ended
+reacted has w v =
+    let t = transmission w (holds_back v.registers) v.sending in
     record {
       view = record {
         registers = with_alert (alert_after w t.ended v.receiving.frames v.registers.alert) v.registers;
@@ -88,24 +84,23 @@ reacted has w held v =
           frames = frames_after w v.receiving.frames;
         };
         sending = t.after;
-        meaning = record {
+        meaning = record v.meaning {
           terminations = cond (byte_at 0x1A w) (terminations_of v.registers.role_control) v.meaning.terminations;
           vconn = cond (byte_at 0x19 w || byte_at 0x1C w) (told_vconn has (vconn_of v.registers) v.meaning.vconn) v.meaning.vconn;
-          path = v.meaning.path;
           line = line_after t.started v.meaning.line;
         };
       };
       ended = t.ended;
     }
 
-abbrev pub acted : Capabilities → Asked → Effect → View → Ended
-acted has w e v = reacted has w (holds_back v.registers) (obeyed has e (with_registers (stored w v.registers) v))
+abbrev pub acted : Capabilities → Asked → Option Effect → View → Ended
+acted has w e v = reacted has w (obeyed has e (with_registers (stored w v.registers) v))
 
 -- a write before the fault and the alerts
-abbrev pub write_unsettled : Capabilities → View → List ℕ → Outcome Answer
+unfoldable pub write_unsettled : Capabilities → View → List ℕ → Outcome Answer
 write_unsettled has v t = unsettled (first_holding (write_table has v t)) (after_write has v (written t)) (taken_with (sent v (written t)).ended) v
 
 -- what a fault turns off
 abbrev pub tripped : Trip → View → View
-tripped Vconn v = with_meaning (record { terminations = v.meaning.terminations; vconn = vconn.Off; path = v.meaning.path; line = v.meaning.line }) v
-tripped Vbus v = with_meaning (record { terminations = v.meaning.terminations; vconn = v.meaning.vconn; path = path.Off; line = v.meaning.line }) v
+tripped Vconn v = with_meaning (record v.meaning { vconn = vconn.Off }) v
+tripped Vbus v = with_meaning (record v.meaning { path = path.Off }) v

@@ -4,15 +4,16 @@ ghost use Rattle.std.specs.Prelude.{◌≡◌};
 ghost use Rattle.port.specs.Outcomes.{taken_with};
 
 use sender::End;
+use std::fmt;
 
-#[derive(Clone, Copy)]
+#[derive(Clone, Copy, Debug, PartialEq, Eq)]
 pub enum Disposition {
     Taken,
     Ignored,
 }
 
 /// The answer to a call that is not refused.
-#[derive(Clone, Copy)]
+#[derive(Clone, Copy, Debug, PartialEq, Eq)]
 pub struct Answer {
     pub disposition: Disposition,
     /// How a sending ended, if one did.
@@ -34,9 +35,24 @@ impl Answer {
 }
 
 /// What happened at the connector.
-#[derive(Clone, Copy)]
+#[derive(Clone, Copy, Debug, PartialEq, Eq)]
 pub enum Report {
     CcLevels { cc1: u8, cc2: u8 },
     Vbus(u8),
     Fault(u8),
+}
+
+impl fmt::Display for Report {
+    ghost use Rattle.std.specs.Prelude.{Some};
+    ghost use Rattle.port.specs.Texts.{report_text};
+
+    ghost output = { λ report. Some (report_text report) };
+
+    fn fmt<W: fmt::Write>(&self, f: &mut fmt::Formatter<W>) -> fmt::Result {
+        match self {
+            Report::CcLevels { cc1, cc2 } => write!(f, "CC levels {cc1} and {cc2}"),
+            Report::Vbus(number) => write!(f, "VBUS {number}"),
+            Report::Fault(number) => write!(f, "fault {number}"),
+        }
+    }
 }

@@ -7,3 +7,4 @@ mod port;
 
 pub use answer::{Answer, Disposition, Report};
 pub use port::Port;
+pub use registers::Identifiers;

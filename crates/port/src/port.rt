@@ -1,18 +1,19 @@
 //! The port: powers a front end on, keeps it to itself, and hands it back safe.
 //! Nothing hands the front end out to be altered, or replaces it.
 ghost use Rattle.std.specs.Prelude.{◌≡◌};
-ghost use Rattle.front_end.specs.Meaning.{safe};
+ghost use Rattle.front_end.specs.Meaning.{safe, at_rest};
 ghost use Rattle.registers.specs.Status.{asserted};
 ghost use Rattle.port.specs.View.{view, powered_on};
 ghost use Rattle.port.specs.Steps.{concluded};
+ghost use Rattle.port.specs.Writes.{front_of};
 
 mod reads;
 mod reports;
 mod writes;
 
-use front_end::{FrontEnd, Path, RpValue, Termination, Terminations, Vconn};
+use front_end::{FrontEnd, Path, Terminations, Vconn};
 use receiver::Receiver;
-use registers::{INTERFACE_ERROR, Registers};
+use registers::{Before, Front, INTERFACE_ERROR, Identifiers, Registers};
 use sender::Sender;
 use transfer::Refusal;
 
@@ -24,22 +25,23 @@ pub struct Port<F: FrontEnd> {
     sender: Sender,
 }
 
-const POWERED_OFF: Terminations = Terminations {
-    cc1: Termination::Open,
-    cc2: Termination::Open,
-    rp: RpValue::Default,
-};
+/// Nothing is switched then and nothing is on the line, whatever was.
+fn put_to_rest<F: FrontEnd>(front: &mut F, terminations: Terminations)
+    ensures { F.meaning front.new ≡ at_rest terminations }
+{
+    front.set_path(Path::Off);
+    front.quiet();
+    front.set_vconn(Vconn::Off);
+    front.set_terminations(terminations);
+}
 
 impl<F: FrontEnd> Port<F> {
     /// The start of every run, whatever the front end did before.
-    pub fn power_on(mut front: F, vendor: u16, product: u16, device: u16) -> Port<F>
-        ensures { view F.meaning result ≡ powered_on vendor product device }
+    pub fn power_on(mut front: F, identifiers: Identifiers) -> Port<F>
+        ensures { view F.meaning result ≡ powered_on identifiers }
     {
-        let registers = Registers::power_on(vendor, product, device);
-        front.set_path(Path::Off);
-        front.quiet();
-        front.set_vconn(Vconn::Off);
-        front.set_terminations(registers.terminations());
+        let registers = Registers::power_on(identifiers);
+        put_to_rest(&mut front, registers.terminations());
         Port {
             front,
             registers,
@@ -58,10 +60,7 @@ impl<F: FrontEnd> Port<F> {
             receiver: _,
             sender: _,
         } = self;
-        front.set_path(Path::Off);
-        front.quiet();
-        front.set_vconn(Vconn::Off);
-        front.set_terminations(POWERED_OFF);
+        put_to_rest(&mut front, Terminations::OPEN);
         front
     }
 
@@ -79,14 +78,26 @@ impl<F: FrontEnd> Port<F> {
         self.registers.alert_asserted()
     }
 
+    /// The front end as the register file is told of it.
+    fn told(&self) -> Front
+        ensures { result ≡ front_of F.CAPABILITIES (view F.meaning self.now) }
+    {
+        Front {
+            has: F::CAPABILITIES,
+            path: self.front.path(),
+        }
+    }
+
+    /// Every call begins here: what changes in it is told from this.
+    fn begin(&self) -> Before
+        ensures { result ≡ record { registers = self.now.registers; path = (view F.meaning self.now).meaning.path } }
+    {
+        self.registers.before(self.front.path())
+    }
+
     /// Every call ends here: a refusal by the interface is a fault, and what changed raises alerts.
-    fn conclude<T>(
-        &mut self,
-        before: &Registers,
-        path: Path,
-        outcome: Result<T, Refusal>,
-    ) -> Result<T, Refusal>
-        ensures view { view F.meaning self.new ≡ concluded before.now path outcome (view F.meaning self.old) }
+    fn conclude<T>(&mut self, before: &Before, outcome: Result<T, Refusal>) -> Result<T, Refusal>
+        ensures view { view F.meaning self.new ≡ concluded before.now outcome (view F.meaning self.old) }
         ensures answer { result ≡ outcome }
     {
         if let Err(refusal) = &outcome {
@@ -94,8 +105,7 @@ impl<F: FrontEnd> Port<F> {
                 self.registers.raise_fault(INTERFACE_ERROR);
             }
         }
-        let path_now = self.front.path();
-        self.registers.settle(before, path, path_now);
+        self.registers.settle(before, self.front.path());
         outcome
     }
 }

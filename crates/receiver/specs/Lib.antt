@@ -1,3 +1,5 @@
 pub mod Capacity
+pub mod Slots
 pub mod Waiting
+pub mod Texts
 pub mod Receiving

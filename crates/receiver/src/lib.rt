@@ -5,4 +5,5 @@
 mod queue;
 mod receiver;
 
+pub use queue::QueueFull;
 pub use receiver::Receiver;

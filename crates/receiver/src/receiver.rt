@@ -1,18 +1,18 @@
 //! A receiver: RECEIVE_DETECT, MESSAGE_HEADER_INFO, RxOneMore and the frames that wait.
 //! Stores the registers as they are written and shows the oldest frame as the receive buffer reads.
-ghost use Rattle.std.specs.Prelude.{◌≡◌, true, length, slice_index};
-ghost use Rattle.pd.specs.Messages.{content};
-ghost use Rattle.receiver.specs.Receiving.{receiving, at_power_on, is_waiting, released, after_hard_reset, keeping};
+ghost use Rattle.std.specs.Prelude.{◌≡◌, ◌≤◌, true, length, is_ok};
+ghost use Rattle.receiver.specs.Receiving.{at_power_on, is_waiting, released, after_hard_reset, keeping};
 ghost use Rattle.receiver.specs.Receiving.{with_detect, with_info, with_armed};
-ghost use Rattle.receiver.specs.Waiting.{shown_bytes, padded};
+ghost use Rattle.receiver.specs.Waiting.{shown_frame, shown_bytes, padded};
+ghost use Rattle.receiver.specs.Capacity.{capacity};
 
-use crate::queue::Queue;
+use crate::queue::{Queue, QueueFull};
 use pd::Message;
 
 /// RECEIVE_DETECT where no frame type and no Hard Reset is enabled.
 const NONE_ENABLED: u8 = 0x00;
 
-/// MESSAGE_HEADER_INFO at power on: revision 1, every role 0.
+/// MESSAGE_HEADER_INFO at power on: revision 2.0, every role 0.
 const INFO_AT_POWER_ON: u8 = 0x02;
 
 #[derive(Clone, Copy)]
@@ -22,98 +22,114 @@ pub struct Receiver {
     /// MESSAGE_HEADER_INFO.
     info: u8,
     /// Whether RxOneMore is armed.
-    one_more: bool,
-    waiting: Queue,
+    armed: bool,
+    /// The frames that wait, oldest first.
+    frames: Queue,
 }
 
 impl Receiver {
     pub fn new() -> Receiver
-        ensures { receiving result ≡ at_power_on }
+        ensures { result ≡ at_power_on }
     {
         Receiver {
             detect: NONE_ENABLED,
             info: INFO_AT_POWER_ON,
-            one_more: false,
-            waiting: Queue::empty(),
+            armed: false,
+            frames: Queue::new(),
         }
     }
 
     /// RECEIVE_DETECT.
     pub fn detect(&self) -> u8
-        ensures { result ≡ (receiving self.now).detect }
+        ensures { result ≡ self.now.detect }
     {
         self.detect
     }
 
     /// MESSAGE_HEADER_INFO.
     pub fn info(&self) -> u8
-        ensures { result ≡ (receiving self.now).info }
+        ensures { result ≡ self.now.info }
     {
         self.info
     }
 
     /// Whether a frame waits.
     pub fn has_waiting(&self) -> bool
-        ensures { result ≡ is_waiting (receiving self.now) }
+        ensures told { result ≡ is_waiting self.now }
+        ensures most { length self.now.frames ≤ capacity }
     {
-        !self.waiting.is_empty()
+        !self.frames.as_slice().is_empty()
     }
 
     pub fn set_detect(&mut self, value: u8)
-        ensures { receiving self.new ≡ with_detect value (receiving self.old) }
+        ensures { self.new ≡ with_detect value self.old }
     {
         self.detect = value;
     }
 
     pub fn set_info(&mut self, value: u8)
-        ensures { receiving self.new ≡ with_info value (receiving self.old) }
+        ensures { self.new ≡ with_info value self.old }
     {
         self.info = value;
     }
 
     /// Arms RxOneMore.
     pub fn arm(&mut self)
-        ensures { receiving self.new ≡ with_armed true (receiving self.old) }
+        ensures { self.new ≡ with_armed true self.old }
     {
-        self.one_more = true;
+        self.armed = true;
     }
 
     /// Lets go of the oldest frame, if any.
     pub fn release(&mut self)
-        ensures { receiving self.new ≡ released (receiving self.old) }
+        ensures { self.new ≡ released self.old }
     {
-        self.waiting.release();
+        self.frames.release();
     }
 
     /// What a Hard Reset, sent or heard, does to reception.
     pub fn reset(&mut self)
-        ensures { receiving self.new ≡ after_hard_reset (receiving self.old) }
+        ensures { self.new ≡ after_hard_reset self.old }
     {
-        self.waiting = Queue::empty();
+        self.frames = Queue::new();
         self.detect = NONE_ENABLED;
-        self.one_more = false;
+        self.armed = false;
     }
 
-    /// The frame waits last, if there is room for it; tells whether there is.
-    pub fn keep(&mut self, frame: Message) -> bool
-        ensures { record { after = receiving self.new; waits = result } ≡ keeping (content frame) (receiving self.old) }
+    /// The frame waits last, or nothing changes where there is no room for it.
+    pub fn keep(&mut self, frame: Message) -> Result<(), QueueFull>
+        ensures { record { after = self.new; waits = is_ok result } ≡ keeping frame self.old }
     {
-        self.waiting.push(frame)
-    }
-
-    /// What stands at `place` of the receive buffer: count, type and bytes of the oldest frame, then zeros.
-    pub(crate) fn shown_byte(&self, place: usize) -> u8
-        ensures { result ≡ slice_index (shown_bytes (receiving self.now).frames) place }
-    {
-        self.waiting.shown_byte(place)
+        self.frames.push(frame)
     }
 
     /// Fills `buffer` with the receive buffer's first bytes.
     pub fn show(&self, buffer: &mut [u8])
-        ensures { buffer.new ≡ padded (length buffer.old) (shown_bytes (receiving self.now).frames) }
+        ensures { buffer.new ≡ padded (length buffer.old) (shown_bytes self.now.frames) }
     {
-        for (place, byte) in buffer.iter_mut().enumerate() {
-            *byte = self.shown_byte(place);
+        match self.frames.as_slice() {
+            [] => buffer.fill(0),
+            [oldest, ..] => show_frame(buffer, oldest),
         }
     }
+}
+
+/// A frame as it is read: how many bytes follow, its type, its bytes; then zeros.
+fn show_frame(buffer: &mut [u8], frame: &Message)
+    ensures { buffer.new ≡ padded (length buffer.old) (shown_frame frame.now) }
+{
+    let bytes = frame.bytes();
+    fill_from(buffer, &[bytes.len() as u8 + 1, frame.kind().into()]);
+    if let [_, _, rest @ ..] = buffer {
+        fill_from(rest, bytes);
+    }
+}
+
+/// As many of `bytes` as there is room for, then zeros.
+fn fill_from(buffer: &mut [u8], bytes: &[u8])
+    ensures { buffer.new ≡ padded (length buffer.old) bytes.now }
+{
+    let (front, behind) = buffer.split_at_mut(bytes.len().min(buffer.len()));
+    front.copy_from_slice(&bytes[..front.len()]);
+    behind.fill(0);
 }

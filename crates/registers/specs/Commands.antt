@@ -1,14 +1,12 @@
 -- COMMAND. Assumes nothing.
 use Rattle.std.specs.Prelude.{ℕ, Bool, true, false, cond, not, ◌&&◌, ◌||◌, List, [], ◌∷◌, Some, None, Option, ◌==◌}
-use Rattle.front_end.specs.Meaning.{has_path}
+use Rattle.std.specs.Option.{option_map}
+use Rattle.front_end.specs.Meaning.{has_path, sinking, sourcing}
 use Rattle.front_end.specs.declared.parts.Capabilities.{Capabilities}
 use Rattle.front_end.specs.declared.parts.Path.{Path}
 use Rattle.front_end.specs.declared.parts.Path.TheVariants as path
-use Rattle.transfer.specs.Refusals.{Row, ◌when◌}
-use Rattle.transfer.specs.declared.refusal.Refusal.TheVariants.{UnknownCommand, LacksCapability, NeedNotMet}
-use Rattle.registers.specs.Status.{sinking, sourcing}
 use Rattle.registers.specs.declared.command.Effect.{Effect}
-use Rattle.registers.specs.declared.command.Effect.TheVariants.{Nothing, Detect, Switch, Arm, Empty}
+use Rattle.registers.specs.declared.command.Effect.TheVariants.{Detect, Switch, Arm, Empty}
 
 abbrev pub commands : List ℕ
 commands = 0x11 ∷ 0x22 ∷ 0x33 ∷ 0x44 ∷ 0x55 ∷ 0x66 ∷ 0x77 ∷ 0x88 ∷ 0xAA ∷ 0xDD ∷ 0xFF ∷ []
@@ -37,34 +35,24 @@ abbrev pub lacks_path : Capabilities → Option Path → Bool
 lacks_path has None = false
 lacks_path has (Some p) = not (has_path has p)
 
-abbrev pub command_rows : Capabilities → Path → ℕ → List Row
-command_rows has p v =
-    (UnknownCommand when not (among v commands)) ∷
-    (LacksCapability when lacks_path has (sets v)) ∷
-    (NeedNotMet when unmet v p) ∷ []
-
-abbrev pub switch_to : Option Path → Effect
-switch_to None = Nothing
-switch_to (Some p) = Switch p
-
--- what a command does: 22h and 33h to detection, AAh arms, DDh empties, the others set or end a path
-abbrev pub effect : ℕ → Path → Effect
+-- what a command does, if anything: 22h and 33h to detection, AAh arms, DDh empties, the others set or end a path
+abbrev pub effect : ℕ → Path → Option Effect
 effect v p =
-    cond (v == 0x22) (Detect false) (cond (v == 0x33) (Detect true) (cond (v == 0xAA) Arm (cond (v == 0xDD) Empty
-    (cond (ends v p) (Switch path.Off) (switch_to (sets v))))))
+    cond (v == 0x22) (Some (Detect false)) (cond (v == 0x33) (Some (Detect true)) (cond (v == 0xAA) (Some Arm) (cond (v == 0xDD) (Some Empty)
+    (cond (ends v p) (Some (Switch path.Off)) (option_map Switch (sets v))))))
 
 -- detection after an effect
-abbrev pub detects : Effect → Bool → Bool
-detects Nothing on = on
-detects (Detect b) on = b
-detects (Switch p) on = on
-detects Arm on = on
-detects Empty on = on
+abbrev pub detects : Option Effect → Bool → Bool
+detects None on = on
+detects (Some (Detect b)) on = b
+detects (Some (Switch p)) on = on
+detects (Some Arm) on = on
+detects (Some Empty) on = on
 
 -- the path that an effect switches to
-abbrev pub switches : Effect → Option Path
-switches Nothing = None
-switches (Detect b) = None
-switches (Switch p) = Some p
-switches Arm = None
-switches Empty = None
+abbrev pub switches : Option Effect → Option Path
+switches None = None
+switches (Some (Detect b)) = None
+switches (Some (Switch p)) = Some p
+switches (Some Arm) = None
+switches (Some Empty) = None

@@ -1,13 +1,12 @@
 -- The register file at power on, and with one register anew. Assumes nothing.
-use Rattle.std.specs.Prelude.{ℕ, true, false}
+use Rattle.std.specs.Prelude.{ℕ, Bool, true, false}
+use Rattle.registers.specs.declared.file.Identifiers.{Identifiers}
 use Rattle.registers.specs.declared.file.Level.TheVariants.{Zero}
 use Rattle.registers.specs.declared.file.Registers.{Registers}
 
-abbrev pub powered_on : ℕ → ℕ → ℕ → Registers
-powered_on vendor product device = record {
-  vendor = vendor;
-  product = product;
-  device = device;
+abbrev pub powered_on : Identifiers → Registers
+powered_on ids = record {
+  identifiers = ids;
   alert = 0x0200;
   alert_mask = 0xFFFF;
   power_status_mask = 0xFF;
@@ -24,40 +23,12 @@ powered_on vendor product device = record {
 
 -- ALERT anew, the rest kept
 abbrev pub with_alert : ℕ → Registers → Registers
-with_alert a s = record {
-  vendor = s.vendor;
-  product = s.product;
-  device = s.device;
-  alert = a;
-  alert_mask = s.alert_mask;
-  power_status_mask = s.power_status_mask;
-  fault_status_mask = s.fault_status_mask;
-  tcpc_control = s.tcpc_control;
-  role_control = s.role_control;
-  power_control = s.power_control;
-  fault_status = s.fault_status;
-  detection = s.detection;
-  vbus = s.vbus;
-  cc1_level = s.cc1_level;
-  cc2_level = s.cc2_level;
-}
+with_alert a s = record s { alert = a }
 
 -- FAULT_STATUS anew, the rest kept
 abbrev pub with_fault_status : ℕ → Registers → Registers
-with_fault_status f s = record {
-  vendor = s.vendor;
-  product = s.product;
-  device = s.device;
-  alert = s.alert;
-  alert_mask = s.alert_mask;
-  power_status_mask = s.power_status_mask;
-  fault_status_mask = s.fault_status_mask;
-  tcpc_control = s.tcpc_control;
-  role_control = s.role_control;
-  power_control = s.power_control;
-  fault_status = f;
-  detection = s.detection;
-  vbus = s.vbus;
-  cc1_level = s.cc1_level;
-  cc2_level = s.cc2_level;
-}
+with_fault_status f s = record s { fault_status = f }
+
+-- VBUS detection anew, the rest kept
+abbrev pub with_detection : Bool → Registers → Registers
+with_detection on s = record s { detection = on }

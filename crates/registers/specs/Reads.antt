@@ -1,10 +1,10 @@
 -- What a read of the register file gives. Assumes nothing.
 use Rattle.std.specs.Prelude.{ℕ, ◌+◌, ◌*◌, cond, List, [], ◌∷◌, ◌==◌}
 use Rattle.front_end.specs.declared.parts.Capabilities.{Capabilities}
-use Rattle.front_end.specs.declared.parts.Path.{Path}
 use Rattle.registers.specs.Bits.{bit}
 use Rattle.registers.specs.Status.{cc_status, power_status}
 use Rattle.registers.specs.declared.file.Registers.{Registers}
+use Rattle.registers.specs.declared.front.Front.{Front}
 
 -- bits 0 to 3 the capabilities; with default source bits 9..8 are 10b, else bits 7..5 are 010b
 abbrev pub capability_word : Capabilities → ℕ
@@ -21,11 +21,11 @@ infixl 20 ◌reads◌
 abbrev pub ◌reads◌ : ℕ → ℕ → Content
 a reads v = record { address = a; value = v }
 
-abbrev pub contents : Capabilities → Path → Registers → List Content
-contents has p s =
-    (0x00 reads s.vendor) ∷
-    (0x02 reads s.product) ∷
-    (0x04 reads s.device) ∷
+abbrev pub contents : Front → Registers → List Content
+contents front s =
+    (0x00 reads s.identifiers.vendor) ∷
+    (0x02 reads s.identifiers.product) ∷
+    (0x04 reads s.identifiers.device) ∷
     (0x0A reads 0x2013) ∷
     (0x10 reads s.alert) ∷
     (0x12 reads s.alert_mask) ∷
@@ -35,9 +35,9 @@ contents has p s =
     (0x1A reads s.role_control) ∷
     (0x1C reads s.power_control) ∷
     (0x1D reads cc_status s) ∷
-    (0x1E reads power_status s p) ∷
+    (0x1E reads power_status s front.path) ∷
     (0x1F reads s.fault_status) ∷
-    (0x24 reads capability_word has) ∷ []
+    (0x24 reads capability_word front.has) ∷ []
 
 -- the value at an address, 0 where there is none
 abbrev pub content_at : ℕ → List Content → ℕ

@@ -1,21 +1,17 @@
 -- What follows from the register file. Assumes nothing.
-use Rattle.std.specs.Prelude.{ℕ, ◌+◌, ◌*◌, ◌/◌, Bool, true, false, cond, ◌&&◌}
-use Rattle.front_end.specs.Codes.{termination_at, rp_at}
+use Rattle.std.specs.Prelude.{ℕ, ◌+◌, ◌*◌, Bool, true, false, cond, ◌&&◌}
+use Rattle.front_end.specs.Codes.{terminations_of}
+use Rattle.front_end.specs.Meaning.{sinking, sourcing}
 use Rattle.front_end.specs.declared.parts.Path.{Path}
 use Rattle.front_end.specs.declared.parts.Path.TheVariants as path
 use Rattle.front_end.specs.declared.parts.Termination.{Termination}
 use Rattle.front_end.specs.declared.parts.Termination.TheVariants.{Ra, Rp, Rd, Open}
-use Rattle.front_end.specs.declared.parts.Terminations.{Terminations}
 use Rattle.front_end.specs.declared.parts.Vconn.{Vconn}
 use Rattle.front_end.specs.declared.parts.Vconn.TheVariants.{Off, Cc1, Cc2}
 use Rattle.registers.specs.Bits.{bit, any_of}
 use Rattle.registers.specs.declared.file.Level.{Level}
 use Rattle.registers.specs.declared.file.Level.TheVariants.{Zero, One, Two, Three}
 use Rattle.registers.specs.declared.file.Registers.{Registers}
-
--- ROLE_CONTROL: CC1 in bits 1..0, CC2 in bits 3..2, the Rp value in bits 5..4
-abbrev pub terminations_of : ℕ → Terminations
-terminations_of role = record { cc1 = termination_at role; cc2 = termination_at (role / 4); rp = rp_at (role / 16) }
 
 -- bit 0 of POWER_CONTROL
 abbrev pub enable_vconn : Registers → Bool
@@ -57,18 +53,6 @@ unfoldable pub cc_status : Registers → ℕ
 cc_status s =
     shown (terminations_of s.role_control).cc1 (on_cc1 (vconn_of s)) s.cc1_level
     + 4 * shown (terminations_of s.role_control).cc2 (on_cc2 (vconn_of s)) s.cc2_level
-
-abbrev pub sinking : Path → Bool
-sinking path.Off = false
-sinking path.Sink = true
-sinking path.DefaultSource = false
-sinking path.NondefaultSource = false
-
-abbrev pub sourcing : Path → Bool
-sourcing path.Off = false
-sourcing path.Sink = false
-sourcing path.DefaultSource = true
-sourcing path.NondefaultSource = true
 
 abbrev pub nondefault : Path → Bool
 nondefault path.Off = false

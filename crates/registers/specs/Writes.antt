@@ -1,6 +1,6 @@
 -- What a write does to the register file, and when its value is refused. Assumes nothing.
-use Rattle.std.specs.Prelude.{ℕ, Bool, true, false, cond, not, ◌&&◌, ◌||◌, List, [], ◌∷◌, ◌==◌}
-use Rattle.front_end.specs.Codes.{rp_code}
+use Rattle.std.specs.Prelude.{ℕ, Bool, true, false, cond, not, ◌&&◌, ◌||◌, List, [], ◌∷◌, None, Option, ◌==◌}
+use Rattle.front_end.specs.Codes.{rp_code, terminations_of}
 use Rattle.front_end.specs.declared.parts.Capabilities.{Capabilities}
 use Rattle.front_end.specs.declared.parts.Path.{Path}
 use Rattle.front_end.specs.declared.parts.Termination.{Termination}
@@ -10,11 +10,11 @@ use Rattle.transfer.specs.Refusals.{Row, ◌when◌}
 use Rattle.transfer.specs.declared.refusal.Refusal.TheVariants.{UnknownCommand, LacksCapability, NeedNotMet}
 use Rattle.registers.specs.Bits.{any_of, set_if, byte_without, word_without}
 use Rattle.registers.specs.Commands.{commands, among, sets, unmet, lacks_path, effect, detects}
-use Rattle.registers.specs.Status.{terminations_of}
+use Rattle.registers.specs.File.{with_detection}
 use Rattle.registers.specs.declared.command.Effect.{Effect}
-use Rattle.registers.specs.declared.command.Effect.TheVariants.{Nothing}
 use Rattle.registers.specs.declared.file.Level.TheVariants.{Zero}
 use Rattle.registers.specs.declared.file.Registers.{Registers}
+use Rattle.registers.specs.declared.front.Front.{Front}
 
 -- whether a byte, or a word, is written at an address
 abbrev pub byte_at : ℕ → Asked → Bool
@@ -59,22 +59,19 @@ abbrev pub lacking : Capabilities → Asked → Bool
 lacking has w = setting_lacks has w || (byte_at 0x23 w && lacks_path has (sets (value w)))
 
 -- when the value of a write is refused
-abbrev pub value_rows : Capabilities → Path → Asked → List Row
-value_rows has p w =
+abbrev pub value_rows : Front → Asked → List Row
+value_rows front w =
     (UnknownCommand when byte_at 0x23 w && not (among (value w) commands)) ∷
-    (LacksCapability when lacking has w) ∷
-    (NeedNotMet when byte_at 0x23 w && unmet (value w) p) ∷ []
+    (LacksCapability when lacking front.has w) ∷
+    (NeedNotMet when byte_at 0x23 w && unmet (value w) front.path) ∷ []
 
--- what a COMMAND does; another write does nothing of that kind
-abbrev pub effect_of : Asked → Path → Effect
-effect_of w p = cond (byte_at 0x23 w) (effect (value w) p) Nothing
+-- what a COMMAND does, if anything; another write does nothing of that kind
+abbrev pub effect_of : Asked → Path → Option Effect
+effect_of w p = cond (byte_at 0x23 w) (effect (value w) p) None
 
 -- each register after a write that is taken
 abbrev pub stored : Asked → Registers → Registers
-stored w s = record {
-  vendor = s.vendor;
-  product = s.product;
-  device = s.device;
+stored w s = record s {
   alert = cond (word_at 0x10 w) (word_without (value w) s.alert) s.alert;
   alert_mask = cond (word_at 0x12 w) (value w) s.alert_mask;
   power_status_mask = cond (byte_at 0x14 w) (value w) s.power_status_mask;
@@ -83,28 +80,10 @@ stored w s = record {
   role_control = cond (byte_at 0x1A w) (value w) s.role_control;
   power_control = cond (byte_at 0x1C w) (value w) s.power_control;
   fault_status = set_if (strays w) 1 (cond (byte_at 0x1F w) (byte_without (value w) s.fault_status) s.fault_status);
-  detection = s.detection;
-  vbus = s.vbus;
   cc1_level = cond (byte_at 0x1A w) Zero s.cc1_level;
   cc2_level = cond (byte_at 0x1A w) Zero s.cc2_level;
 }
 
 -- VBUS detection after an effect, the rest kept
-abbrev pub detecting : Effect → Registers → Registers
-detecting e s = record {
-  vendor = s.vendor;
-  product = s.product;
-  device = s.device;
-  alert = s.alert;
-  alert_mask = s.alert_mask;
-  power_status_mask = s.power_status_mask;
-  fault_status_mask = s.fault_status_mask;
-  tcpc_control = s.tcpc_control;
-  role_control = s.role_control;
-  power_control = s.power_control;
-  fault_status = s.fault_status;
-  detection = detects e s.detection;
-  vbus = s.vbus;
-  cc1_level = s.cc1_level;
-  cc2_level = s.cc2_level;
-}
+abbrev pub detecting : Option Effect → Registers → Registers
+detecting e s = with_detection (detects e s.detection) s

@@ -9,12 +9,28 @@ use front_end::Path;
 /// FAULT_STATUS bit 0: a transfer was refused, or a one was written to an undefined bit.
 pub const INTERFACE_ERROR: u8 = 0x01;
 
-/// ALERT bits 2 and 3: a frame waits, a Hard Reset was heard.
-const HOLD_BACK: u16 = 0x000C;
+/// ALERT bit 2: a frame waits.
+pub const FRAME_WAITS: u16 = 0x0004;
 
-const POWER_STATUS_CHANGED: u16 = 2;
+/// ALERT bit 5: a sending was discarded.
+pub const DISCARDED: u16 = 0x0020;
 
-const FAULT_ROSE: u16 = 512;
+/// ALERT bits 1, 3 and 9.
+const POWER_STATUS_CHANGED: u16 = 0x0002;
+
+const RESET_HEARD: u16 = 0x0008;
+
+const FAULT_ROSE: u16 = 0x0200;
+
+/// No sending but a Hard Reset passes while one of these stands.
+const HOLD_BACK: u16 = FRAME_WAITS | RESET_HEARD;
+
+/// The register file and the path as they were when a call began.
+#[derive(Clone, Copy, Debug)]
+pub struct Before {
+    pub registers: Registers,
+    pub path: Path,
+}
 
 impl Registers {
     /// Sets FAULT_STATUS bits.
@@ -45,17 +61,29 @@ impl Registers {
         self.alert & HOLD_BACK != 0
     }
 
-    /// Raises the ALERT bits for what changed in the call since `before`, masks as they are now.
-    pub fn settle(&mut self, before: &Registers, path_before: Path, path: Path)
-        ensures { self.new ≡ settled before.now path_before self.old path }
+    /// What `settle` is to be told when the call that begins here ends.
+    pub fn before(&self, path: Path) -> Before
+        ensures { result ≡ record { registers = self.now; path = path } }
     {
-        let cc = before.cc_status() != self.cc_status();
-        let power = (before.power_status(path_before) ^ self.power_status(path))
+        Before {
+            registers: *self,
+            path,
+        }
+    }
+
+    /// Raises the ALERT bits for what changed in the call since `before`, masks as they are now.
+    #[tactic(auto, unfolding(crate::specs::Alerts::risen))]
+    pub fn settle(&mut self, before: &Before, path: Path)
+        ensures { self.new ≡ settled before.now.registers before.now.path self.old path }
+    {
+        let was = &before.registers;
+        let cc = was.cc_status() != self.cc_status();
+        let power = (was.power_status(before.path) ^ self.power_status(path))
             & self.power_status_mask
             != 0;
-        let fault = self.fault_status & !before.fault_status & self.fault_status_mask != 0;
-        self.alert |= (cc as u16)
-            + POWER_STATUS_CHANGED * (power as u16)
-            + FAULT_ROSE * (fault as u16);
+        let fault = self.fault_status & !was.fault_status & self.fault_status_mask != 0;
+        self.alert |= u16::from(cc)
+            + POWER_STATUS_CHANGED * u16::from(power)
+            + FAULT_ROSE * u16::from(fault);
     }
 }

@@ -5,13 +5,15 @@
 mod alerts;
 mod command;
 mod file;
+mod front;
 mod reads;
 mod reports;
 mod status;
 mod writes;
 
-pub use alerts::INTERFACE_ERROR;
+pub use alerts::{Before, DISCARDED, FRAME_WAITS, INTERFACE_ERROR};
 pub use command::Effect;
-pub use file::{Level, Registers};
+pub use file::{Identifiers, Level, Registers};
+pub use front::Front;
 pub use reports::Trip;
 pub use writes::judge;

@@ -1,9 +1,11 @@
 //! What a read of the register file gives.
+//! Shows; alters nothing.
 ghost use Rattle.std.specs.Prelude.{◌≡◌};
 ghost use Rattle.registers.specs.Reads.{capability_word, contents, content_at};
 
 use crate::file::Registers;
-use front_end::{Capabilities, Path};
+use crate::front::Front;
+use front_end::Capabilities;
 use transfer::address;
 
 const PD_INTERFACE_REVISION: u16 = 0x2013;
@@ -21,22 +23,22 @@ fn capability_word(has: Capabilities) -> u16
     } else {
         SINK_ROLES
     };
-    (has.default_source as u16)
-        + 2 * (has.nondefault_source as u16)
-        + 4 * (has.sink as u16)
-        + 8 * (has.vconn as u16)
+    u16::from(has.default_source)
+        + 2 * u16::from(has.nondefault_source)
+        + 4 * u16::from(has.sink)
+        + 8 * u16::from(has.vconn)
         + roles
 }
 
 impl Registers {
     /// The value of a register of the file; 0 for any other address.
-    pub fn value_at(&self, register: u8, has: Capabilities, path: Path) -> u16
-        ensures { result ≡ content_at register (contents has path self.now) }
+    pub fn value_at(&self, register: u8, front: Front) -> u16
+        ensures { result ≡ content_at register (contents front self.now) }
     {
         match register {
-            address::VENDOR_ID => self.vendor,
-            address::PRODUCT_ID => self.product,
-            address::DEVICE_ID => self.device,
+            address::VENDOR_ID => self.identifiers.vendor,
+            address::PRODUCT_ID => self.identifiers.product,
+            address::DEVICE_ID => self.identifiers.device,
             address::PD_INTERFACE_REV => PD_INTERFACE_REVISION,
             address::ALERT => self.alert,
             address::ALERT_MASK => self.alert_mask,
@@ -46,9 +48,9 @@ impl Registers {
             address::ROLE_CONTROL => u16::from(self.role_control),
             address::POWER_CONTROL => u16::from(self.power_control),
             address::CC_STATUS => u16::from(self.cc_status()),
-            address::POWER_STATUS => u16::from(self.power_status(path)),
+            address::POWER_STATUS => u16::from(self.power_status(front.path)),
             address::FAULT_STATUS => u16::from(self.fault_status),
-            address::DEVICE_CAPABILITIES_1 => capability_word(has),
+            address::DEVICE_CAPABILITIES_1 => capability_word(front.has),
             _ => 0,
         }
     }

@@ -1,4 +1,3 @@
 pub mod Exclusive
 pub mod Pins
-pub mod Lines
 pub mod Relays

@@ -1,5 +1,6 @@
 -- What the relay board's switches stand for. Assumes nothing.
 use Rattle.std.specs.Prelude.{Bool, true, cond}
+use Rattle.front_end.specs.Lines.{carried}
 use Rattle.front_end.specs.Meaning.{Meaning}
 use Rattle.front_end.specs.declared.parts.Capabilities.{Capabilities}
 use Rattle.front_end.specs.declared.parts.Path.{Path}
@@ -8,7 +9,6 @@ use Rattle.front_end.specs.declared.parts.RpValue.{RpValue}
 use Rattle.front_end.specs.declared.parts.RpValue.TheVariants as rp
 use Rattle.front_end.specs.declared.parts.Vconn.{Vconn}
 use Rattle.front_end.specs.declared.parts.Vconn.TheVariants as vconn
-use Rattle.relay_board.specs.Lines.{relay_line}
 use Rattle.relay_board.specs.Pins.{pin_of}
 use Rattle.relay_board.specs.declared.board.RelayBoard.{RelayBoard}
 
@@ -36,5 +36,5 @@ relay_meaning b = record {
   };
   vconn = vconn_of b.switches.vconn_cc1 b.switches.vconn_cc2;
   path = path_of b.switches.sink b.switches.source b.switches.raised;
-  line = relay_line b.line;
+  line = carried (λ starts. starts.count) b.line;
 }

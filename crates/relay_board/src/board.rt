@@ -5,15 +5,18 @@ ghost use Rattle.front_end.specs.Meaning.{safe};
 ghost use Rattle.relay_board.specs.Relays.{relay_meaning, everything};
 ghost use Rattle.std.proofs.Common.{rules};
 
-use crate::line::RelayLine;
-use crate::switches::{Pin, RelaySwitches};
-use front_end::{Capabilities, FrontEnd, Line, Path, RpValue, Termination, Terminations, Vconn};
+use crate::pin::Pin;
+use crate::starts::Made;
+use crate::switches::RelaySwitches;
+use front_end::{
+    BoardLine, Capabilities, FrontEnd, OnLine, Path, RpValue, Termination, Terminations, Vconn,
+};
 use pd::Message;
 
 #[derive(Drop)]
 pub struct RelayBoard {
     switches: RelaySwitches,
-    line: RelayLine,
+    line: BoardLine<Made>,
 }
 
 impl RelayBoard {
@@ -23,8 +26,8 @@ impl RelayBoard {
     {
         RelayBoard {
             switches: RelaySwitches {
-                cc1: Pin::with(Termination::Open),
-                cc2: Pin::with(Termination::Open),
+                cc1: Pin::from(Termination::Open),
+                cc2: Pin::from(Termination::Open),
                 rp_low: false,
                 rp_high: false,
                 vconn_cc1: false,
@@ -33,34 +36,32 @@ impl RelayBoard {
                 source: false,
                 raised: false,
             },
-            line: RelayLine::new(),
+            line: BoardLine::new(),
         }
     }
 }
 
+impl Default for RelayBoard {
+    ghost is_default = { λ board. relay_meaning board ≡ safe };
+
+    fn default() -> RelayBoard {
+        RelayBoard::new()
+    }
+}
+
 impl FrontEnd for RelayBoard {
-    const HAS_DEFAULT_SOURCE: bool = true;
+    const CAPABILITIES: Capabilities = Capabilities {
+        default_source: true,
+        nondefault_source: true,
+        sink: true,
+        vconn: true,
+    };
 
-    const HAS_NONDEFAULT_SOURCE: bool = true;
-
-    const HAS_SINK: bool = true;
-
-    const HAS_VCONN: bool = true;
-
-    ghost has = { everything };
+    ghost CAPABILITIES = { everything };
 
     ghost meaning = { relay_meaning };
 
     ghost nondefault_source_implies_default_source = { Prim.search rules };
-
-    fn capabilities() -> Capabilities {
-        Capabilities {
-            default_source: Self::HAS_DEFAULT_SOURCE,
-            nondefault_source: Self::HAS_NONDEFAULT_SOURCE,
-            sink: Self::HAS_SINK,
-            vconn: Self::HAS_VCONN,
-        }
-    }
 
     fn set_terminations(&mut self, terminations: Terminations) {
         let (high, low) = match terminations.rp {
@@ -69,8 +70,8 @@ impl FrontEnd for RelayBoard {
             RpValue::High => (true, false),
             RpValue::Reserved => (true, true),
         };
-        self.switches.cc1 = Pin::with(terminations.cc1);
-        self.switches.cc2 = Pin::with(terminations.cc2);
+        self.switches.cc1 = terminations.cc1.into();
+        self.switches.cc2 = terminations.cc2.into();
         self.switches.rp_high = high;
         self.switches.rp_low = low;
     }
@@ -122,8 +123,8 @@ impl FrontEnd for RelayBoard {
             (true, true) => RpValue::Reserved,
         };
         Terminations {
-            cc1: self.switches.cc1.termination(),
-            cc2: self.switches.cc2.termination(),
+            cc1: self.switches.cc1.into(),
+            cc2: self.switches.cc2.into(),
             rp,
         }
     }
@@ -151,7 +152,7 @@ impl FrontEnd for RelayBoard {
         }
     }
 
-    fn line(&self) -> Line {
-        self.line.line()
+    fn line(&self) -> Option<OnLine<'_>> {
+        self.line.on_line()
     }
 }

@@ -3,7 +3,8 @@
 #![tactic(auto)]
 
 mod board;
-mod line;
+mod pin;
+mod starts;
 mod switches;
 
 pub use board::RelayBoard;

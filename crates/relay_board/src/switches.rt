@@ -1,18 +1,9 @@
 //! The switches of the relay board, one bit each.
-//! By their types no pin has two resistors, VCONN is on one pin at most, and nothing sinks and sources at once.
+//! By its type VCONN is on one pin at most, and nothing sinks and sources at once, at any moment.
 ghost use Rattle.std.specs.Prelude.{true, ◌≡◌};
-ghost use Rattle.relay_board.specs.Exclusive.{not_both, at_most_one, only_with};
+ghost use Rattle.relay_board.specs.Exclusive.{not_both, only_with};
 
-mod resistors;
-
-/// The three resistors of a CC pin; with none switched in, the pin is open.
-#[derive(Clone, Copy)]
-pub(crate) struct Pin {
-    ra: bool,
-    rp: bool,
-    rd: bool,
-    ghost single: { at_most_one ra rp rd ≡ true },
-}
+use crate::pin::Pin;
 
 #[derive(Drop)]
 pub(crate) struct RelaySwitches {

@@ -1,7 +1,6 @@
-mod Always
+mod Calls
 mod Outputs
 mod Bits
 mod Alerts
-mod Lasts
 mod Statuses
 mod Meets

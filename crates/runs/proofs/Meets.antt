@@ -1,7 +1,9 @@
 -- Forms of outcomes and of the ledger's entries that meet. Assumes nothing.
-use Rattle.std.proofs.Common.{◌≡◌, ℕ, zero, suc, ◌+◌, ◌*◌, ◌/◌, ◌%◌, ◌^◌, ◌<◌, Bool, true, false, cond, ◌&&◌, ◌||◌, eqb, Some, None, Ok, sym, refl, ap, ◌∙◌, arith}
-use lib.Bits.{bit_and, bit_or, or_shr, or_mod, and_shr, and_mod}
-use Rattle.front_end.specs.declared.parts.Path.{Path}
+use Rattle.std.proofs.Common.{◌≡◌, ℕ, ◌+◌, ◌*◌, Bool, true, false, ◌&&◌, ◌||◌, Some, None, Ok, sym, refl, ◌∙◌, arith}
+use Rattle.std.proofs.lemmas.Bool.{cond_both}
+use Rattle.std.proofs.lemmas.Bool.Decides.{nat_tests}
+use Rattle.std.proofs.lemmas.Nat.Bits.{bit_at_and, bit_at_or, bit_at-lt}
+use lib.Bits.{bit_and, bit_or}
 use Rattle.front_end.specs.declared.parts.Terminations.{Terminations}
 use Rattle.front_end.specs.declared.parts.Vconn.{Vconn}
 use Rattle.ledger.specs.Kept.{Ledger, Under, with_frame_alert, with_reset_alert, with_under}
@@ -20,77 +22,28 @@ use Rattle.runs.specs.Agreement.{Agrees, held, on_the_line, Same}
 
 -- ---- bits
 
-or_digits : (x y : ℕ) → x < 2 → y < 2 → eqb (bit_or x y) 1 ≡ (eqb x 1 || eqb y 1)
-or_digits zero zero hx hy = refl
-or_digits zero (suc zero) hx hy = refl
-or_digits zero (suc (suc y)) hx hy = absurd (omega arith)
-or_digits (suc zero) zero hx hy = refl
-or_digits (suc zero) (suc zero) hx hy = refl
-or_digits (suc zero) (suc (suc y)) hx hy = absurd (omega arith)
-or_digits (suc (suc x)) y hx hy = absurd (omega arith)
-
-and_digits : (x y : ℕ) → x < 2 → y < 2 → eqb (bit_and x y) 1 ≡ (eqb x 1 && eqb y 1)
-and_digits zero zero hx hy = refl
-and_digits zero (suc zero) hx hy = refl
-and_digits zero (suc (suc y)) hx hy = absurd (omega arith)
-and_digits (suc zero) zero hx hy = refl
-and_digits (suc zero) (suc zero) hx hy = refl
-and_digits (suc zero) (suc (suc y)) hx hy = absurd (omega arith)
-and_digits (suc (suc x)) y hx hy = absurd (omega arith)
-
 pub or_bit : (k a b : ℕ) → has_bit k (bit_or a b) ≡ (has_bit k a || has_bit k b)
-or_bit k a b =
-    ap (λ (n : ℕ). eqb n 1) (ap (λ (n : ℕ). n % 2) (or_shr a b k) ∙ or_mod (a / 2 ^ k) (b / 2 ^ k) 1)
-    ∙ or_digits (a / 2 ^ k % 2) (b / 2 ^ k % 2) (omega arith) (omega arith)
+or_bit k a b = grind (arith, nat_tests, bit_at_or, bit_at-lt)
 
 pub and_bit : (k a b : ℕ) → has_bit k (bit_and a b) ≡ (has_bit k a && has_bit k b)
-and_bit k a b =
-    ap (λ (n : ℕ). eqb n 1) (ap (λ (n : ℕ). n % 2) (and_shr a b k) ∙ and_mod (a / 2 ^ k) (b / 2 ^ k) 1)
-    ∙ and_digits (a / 2 ^ k % 2) (b / 2 ^ k % 2) (omega arith) (omega arith)
-
-or_false : (b : Bool) → (b || false) ≡ b
-or_false true = refl
-or_false false = refl
-
-or_true : (b : Bool) → (b || true) ≡ true
-or_true true = refl
-or_true false = refl
-
-and_true : (b : Bool) → (b && true) ≡ b
-and_true true = refl
-and_true false = refl
-
-and_false : (b : Bool) → (b && false) ≡ false
-and_false true = refl
-and_false false = refl
+and_bit k a b = grind (arith, nat_tests, bit_at_and, bit_at-lt)
 
 -- a bit that is not among those set, one that is, one that is kept, one that is not
 pub bit_stays : (k a b : ℕ) → has_bit k b ≡ false → has_bit k (bit_or a b) ≡ has_bit k a
-bit_stays k a b h = or_bit k a b ∙ ap (λ x. has_bit k a || x) h ∙ or_false (has_bit k a)
+bit_stays k a b h = grind (arith, or_bit)
 
 pub bit_rises : (k a b : ℕ) → has_bit k b ≡ true → has_bit k (bit_or a b) ≡ true
-bit_rises k a b h = or_bit k a b ∙ ap (λ x. has_bit k a || x) h ∙ or_true (has_bit k a)
+bit_rises k a b h = grind (arith, or_bit)
 
 pub bit_kept : (k a b : ℕ) → has_bit k b ≡ true → has_bit k (bit_and a b) ≡ has_bit k a
-bit_kept k a b h = and_bit k a b ∙ ap (λ x. has_bit k a && x) h ∙ and_true (has_bit k a)
+bit_kept k a b h = grind (arith, and_bit)
 
 pub bit_falls : (k a b : ℕ) → has_bit k b ≡ false → has_bit k (bit_and a b) ≡ false
-bit_falls k a b h = and_bit k a b ∙ ap (λ x. has_bit k a && x) h ∙ and_false (has_bit k a)
+bit_falls k a b h = grind (arith, and_bit)
 
 -- bits 2 and 3 are none of those that rise by a change
 none_of_them : (x y z : Bool) → (has_bit 2 (bit x + 2 * bit y + 512 * bit z) ≡ false) × (has_bit 3 (bit x + 2 * bit y + 512 * bit z) ≡ false)
-none_of_them true true true = (refl, refl)
-none_of_them true true false = (refl, refl)
-none_of_them true false true = (refl, refl)
-none_of_them true false false = (refl, refl)
-none_of_them false true true = (refl, refl)
-none_of_them false true false = (refl, refl)
-none_of_them false false true = (refl, refl)
-none_of_them false false false = (refl, refl)
-
-calm : (b a : Registers) (p q : Path) → (has_bit 2 (risen b p a q) ≡ false) × (has_bit 3 (risen b p a q) ≡ false)
-unfolding risen
-calm b a p q = none_of_them _ _ _
+none_of_them x y z = grind arith
 
 -- ---- outcomes
 
@@ -99,38 +52,32 @@ pub record Meet (o : Outcome Answer) (e : Entry) : Type 0 where
   pub same : Same o.view e.next
   pub agrees : Agrees e o.answer
 
--- the alerts at the end of a call leave what is the ledger's
-settled_same : (b a : View) (l : Ledger) → Same a l → Same (settled_since b a) l
-settled_same b a l h =
-    let r = risen b.registers b.meaning.path a.registers a.meaning.path in
-    let z = calm b.registers a.registers b.meaning.path a.meaning.path in
-    record {
-      detect = h.detect;
-      info = h.info;
-      armed = h.armed;
-      frames = h.frames;
-      frame_alert = bit_stays 2 a.registers.alert r z.0 ∙ h.frame_alert;
-      reset_alert = bit_stays 3 a.registers.alert r z.1 ∙ h.reset_alert;
-      buffer = h.buffer;
-      under = h.under;
-      path = h.path;
-      line = h.line;
-    }
-
-faulted_same : (b : Bool) (v : View) (l : Ledger) → Same v l → Same (cond b (with_registers (faulted 1 v.registers) v) v) l
-faulted_same true v l h = record {
+-- registers with those two ALERT bits leave what is the ledger's
+same_with : (s : Registers) (v : View) (l : Ledger) → has_bit 2 s.alert ≡ has_bit 2 v.registers.alert → has_bit 3 s.alert ≡ has_bit 3 v.registers.alert →
+    Same v l → Same (with_registers s v) l
+same_with s v l x y h = record {
   detect = h.detect;
   info = h.info;
   armed = h.armed;
   frames = h.frames;
-  frame_alert = h.frame_alert;
-  reset_alert = h.reset_alert;
+  frame_alert = x ∙ h.frame_alert;
+  reset_alert = y ∙ h.reset_alert;
   buffer = h.buffer;
   under = h.under;
   path = h.path;
   line = h.line;
 }
-faulted_same false v l h = h
+
+-- so do the alerts at the end of a call
+settled_same : (b a : View) (l : Ledger) → Same a l → Same (settled_since b a) l
+unfolding risen
+settled_same b a l = same_with _ a l (bit_stays 2 a.registers.alert _ (none_of_them _ _ _).0) (bit_stays 3 a.registers.alert _ (none_of_them _ _ _).1)
+
+-- and the fault of a refusal
+refused_same : (r : Refusal) (v : View) (l : Ledger) → Same v l → Same (settled_since v (faulted_by r v)) l
+refused_same r v l h =
+    settled_same v (faulted_by r v) l
+    (cond_both (is_interface_error r) _ v (λ w. Same w l) (λ e. same_with (faulted 1 v.registers) v l refl refl h) (λ e. h))
 
 -- a call that is not refused
 pub met : (a v : View) (n : Answer) (e : Entry) → Same a e.next → Agrees e (Ok n) → Meet (outcome None a n v) e
@@ -138,17 +85,11 @@ met a v n e s g = record { same = settled_same v a e.next s; agrees = g }
 
 -- a refusal, judged alike
 pub refused_alike : (r : Refusal) (a v : View) (n : Answer) (l : Ledger) → Same v l → Meet (outcome (Some r) a n v) (stays (refused (refusal_number r)) l)
-refused_alike r a v n l s = record {
-  same = settled_same v (faulted_by r v) l (faulted_same (is_interface_error r) v l s);
-  agrees = record { verdict = refl; end = refl; good_crc = refl };
-}
+refused_alike r a v n l s = record { same = refused_same r v l s; agrees = record { verdict = refl; end = refl; good_crc = refl } }
 
 -- a refusal of which the ledger says nothing
 pub refused_unseen : (r : Refusal) (a v : View) (n : Answer) (l : Ledger) → Same v l → Meet (outcome (Some r) a n v) (ledger.silent l)
-refused_unseen r a v n l s = record {
-  same = settled_same v (faulted_by r v) l (faulted_same (is_interface_error r) v l s);
-  agrees = record { verdict = tt; end = refl; good_crc = refl };
-}
+refused_unseen r a v n l s = record { same = refused_same r v l s; agrees = record { verdict = tt; end = refl; good_crc = refl } }
 
 pub ignored_alike : (v : View) (l : Ledger) → Same v l → Meet (outcome None v ignored v) (stays ledger.ignored l)
 ignored_alike v l s = met v v ignored (stays ledger.ignored l) s record { verdict = refl; end = refl; good_crc = refl }
@@ -184,7 +125,7 @@ port_is v l h = λ i. record {
   registers = v.registers;
   receiving = record { detect = sym h.detect i; info = sym h.info i; armed = sym h.armed i; frames = sym h.frames i };
   sending = record { buffer = sym h.buffer i; under = sym h.under i };
-  meaning = record { terminations = v.meaning.terminations; vconn = v.meaning.vconn; path = sym h.path i; line = sym h.line i };
+  meaning = record v.meaning { path = sym h.path i; line = sym h.line i };
 }
 
 pub ledger_is : (v : View) (l : Ledger) → Same v l → ledger_at (rest_of v) l l.under ≡ l

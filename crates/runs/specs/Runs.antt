@@ -1,11 +1,12 @@
 -- What a run is: calls to one port from power on, and what the port holds after them. Assumes nothing.
-use Rattle.std.specs.Prelude.{ℕ, Bool, true, false, cond, List, [], ◌∷◌, Some, None, Option}
+use Rattle.std.specs.Prelude.{ℕ, Bool, List, [], ◌∷◌, Option, is_none}
 use Rattle.front_end.specs.declared.parts.Capabilities.{Capabilities}
 use Rattle.port.specs.Reads.{read_refusal, read_outcome}
 use Rattle.port.specs.Reports.{report_refusal, report_outcome}
 use Rattle.port.specs.View.{View, powered_on}
 use Rattle.port.specs.Writes.{write_table, write_outcome}
 use Rattle.port.specs.declared.answer.Report.{Report}
+use Rattle.registers.specs.declared.file.Identifiers.{Identifiers}
 use Rattle.transfer.specs.Refusals.{first_holding}
 use Rattle.transfer.specs.declared.refusal.Refusal.{Refusal}
 
@@ -15,22 +16,11 @@ pub data Call : Type 0 where
   read : ℕ → ℕ → List ℕ → Call
   reported : Report → Call
 
--- what a port is given at power on
-pub record Identifiers : Type 0 where
-  pub vendor : ℕ
-  pub product : ℕ
-  pub device : ℕ
-
 -- why a call is refused, if it is
 abbrev pub refusal_of : Capabilities → View → Call → Option Refusal
 refusal_of has v (wrote t) = first_holding (write_table has v t)
 refusal_of has v (read a wanted buffer) = read_refusal a wanted buffer
 refusal_of has v (reported r) = report_refusal v r
-
--- no refusal
-abbrev pub is_none : Option Refusal → Bool
-is_none (Some r) = false
-is_none None = true
 
 -- whether a call is not refused
 abbrev pub taken : Capabilities → View → Call → Bool
@@ -44,11 +34,5 @@ next has v (reported r) = (report_outcome v r).view
 
 -- all that a port holds after its calls, the newest first
 abbrev pub after : Capabilities → Identifiers → List Call → View
-after has ids [] = powered_on ids.vendor ids.product ids.device
+after has ids [] = powered_on ids
 after has ids (c ∷ past) = next has (after has ids past) c
-
--- what the taken calls of a run have made of a thing, one after the other
-abbrev pub made_of : {A : Type 0} → (Call → A → A) → A → Capabilities → Identifiers → List Call → A
-made_of by start has ids [] = start
-made_of by start has ids (c ∷ past) =
-    cond (taken has (after has ids past) c) (by c (made_of by start has ids past)) (made_of by start has ids past)

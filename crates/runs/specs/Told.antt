@@ -1,5 +1,5 @@
 -- What taken calls say of the connector, and which ALERT bits they clear. Assumes nothing.
-use Rattle.std.specs.Prelude.{ℕ, Bool, true, false, cond, List, ◌==◌}
+use Rattle.std.specs.Prelude.{ℕ, Bool, true, false, cond, List, [], ◌∷◌, ◌==◌}
 use Rattle.front_end.specs.declared.parts.Capabilities.{Capabilities}
 use Rattle.front_end.specs.declared.parts.Vconn.{Vconn}
 use Rattle.front_end.specs.declared.parts.Vconn.TheVariants.{Off, Cc1, Cc2}
@@ -8,60 +8,40 @@ use Rattle.port.specs.Writes.{hard_resets}
 use Rattle.port.specs.declared.answer.Report.TheVariants.{CcLevels, Vbus, Fault}
 use Rattle.registers.specs.Reports.{level_of}
 use Rattle.registers.specs.Writes.{byte_at, word_at, value}
+use Rattle.registers.specs.declared.file.Identifiers.{Identifiers}
 use Rattle.registers.specs.declared.file.Level.{Level}
 use Rattle.registers.specs.declared.file.Level.TheVariants.{Zero}
 use Rattle.transfer.specs.Decode.{Asked, written}
-use Rattle.runs.specs.Runs.{Call, wrote, read, reported, Identifiers, taken, made_of}
+use Rattle.runs.specs.Runs.{Call, wrote, read, reported, taken, after}
 
--- the level of CC1: as reported, and zero after a write to ROLE_CONTROL
-abbrev pub sets_cc1 : Call → Level → Level
-sets_cc1 (wrote t) level = cond (byte_at 0x1A (written t)) Zero level
-sets_cc1 (read a wanted buffer) level = level
-sets_cc1 (reported (CcLevels cc1 cc2)) level = level_of cc1
-sets_cc1 (reported (Vbus n)) level = level
-sets_cc1 (reported (Fault n)) level = level
-
--- the level of CC2, likewise
-abbrev pub sets_cc2 : Call → Level → Level
-sets_cc2 (wrote t) level = cond (byte_at 0x1A (written t)) Zero level
-sets_cc2 (read a wanted buffer) level = level
-sets_cc2 (reported (CcLevels cc1 cc2)) level = level_of cc2
-sets_cc2 (reported (Vbus n)) level = level
-sets_cc2 (reported (Fault n)) level = level
-
--- VBUS is present, as reported
-abbrev pub sets_vbus : Call → Bool → Bool
-sets_vbus (wrote t) present = present
-sets_vbus (read a wanted buffer) present = present
-sets_vbus (reported (CcLevels cc1 cc2)) present = present
-sets_vbus (reported (Vbus n)) present = n == 1
-sets_vbus (reported (Fault n)) present = present
+-- the levels on CC1 and CC2, whether VBUS is present, and whether it is being detected
+pub record Connector : Type 0 where
+  pub cc1 : Level
+  pub cc2 : Level
+  pub vbus : Bool
+  pub detection : Bool
 
 -- COMMAND 22h ends the detection of VBUS, 33h begins it
 abbrev pub commands_detection : Asked → Bool → Bool
 commands_detection w on = cond (byte_at 0x23 w) (cond (value w == 0x22) false (cond (value w == 0x33) true on)) on
 
--- detection of VBUS, as commanded
-abbrev pub sets_detection : Call → Bool → Bool
-sets_detection (wrote t) on = commands_detection (written t) on
-sets_detection (read a wanted buffer) on = on
-sets_detection (reported r) on = on
+-- levels and VBUS as reported, detection as commanded; a write to ROLE_CONTROL makes both levels zero
+abbrev pub tells : Call → Connector → Connector
+tells (wrote t) c = record {
+  cc1 = cond (byte_at 0x1A (written t)) Zero c.cc1;
+  cc2 = cond (byte_at 0x1A (written t)) Zero c.cc2;
+  vbus = c.vbus;
+  detection = commands_detection (written t) c.detection;
+}
+tells (read a wanted buffer) c = c
+tells (reported (CcLevels cc1 cc2)) c = record c { cc1 = level_of cc1; cc2 = level_of cc2 }
+tells (reported (Vbus n)) c = record c { vbus = n == 1 }
+tells (reported (Fault n)) c = c
 
--- the level last reported for CC1 since the last write to ROLE_CONTROL, of the calls taken
-abbrev pub cc1_reported : Capabilities → Identifiers → List Call → Level
-cc1_reported = made_of sets_cc1 Zero
-
--- the level last reported for CC2 since the last write to ROLE_CONTROL, of the calls taken
-abbrev pub cc2_reported : Capabilities → Identifiers → List Call → Level
-cc2_reported = made_of sets_cc2 Zero
-
--- VBUS as last reported
-abbrev pub vbus_reported : Capabilities → Identifiers → List Call → Bool
-vbus_reported = made_of sets_vbus false
-
--- whether the last of COMMAND 22h and 33h was 33h; on from power on
-abbrev pub detection_commanded : Capabilities → Identifiers → List Call → Bool
-detection_commanded = made_of sets_detection true
+-- the connector as the taken calls of a run tell it; at power on no level and no VBUS, and detection on
+abbrev pub as_told : Capabilities → Identifiers → List Call → Connector
+as_told has ids [] = record { cc1 = Zero; cc2 = Zero; vbus = false; detection = true }
+as_told has ids (c ∷ past) = cond (taken has (after has ids past) c) (tells c (as_told has ids past)) (as_told has ids past)
 
 -- whether VCONN is on
 abbrev pub is_on : Vconn → Bool

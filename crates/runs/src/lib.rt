@@ -4,38 +4,31 @@
 
 ghost use Rattle.runs.specs.Laws.{PinShowsAlerts, TerminationsFollow, VconnFollows, AlertsStand, PowerStatusShown, CcStatusShown};
 
-pub fn pin_shows_alerts() -> u8
+pub fn pin_shows_alerts()
     ensures { PinShowsAlerts }
-{
-    0
-}
+{}
 
-pub fn terminations_follow() -> u8
+#[tactic(auto, using(crate::proofs::Outputs::terminations_follow))]
+pub fn terminations_follow()
     ensures { TerminationsFollow }
-{
-    0
-}
+{}
 
-pub fn vconn_follows() -> u8
+#[tactic(auto, using(crate::proofs::Outputs::vconn_follows))]
+pub fn vconn_follows()
     ensures { VconnFollows }
-{
-    0
-}
+{}
 
-pub fn alerts_stand() -> u8
+#[tactic(auto, using(crate::proofs::Alerts::alerts_stand))]
+pub fn alerts_stand()
     ensures { AlertsStand }
-{
-    0
-}
+{}
 
-pub fn power_status_shown() -> u8
+#[tactic(auto, using(crate::proofs::Statuses::power_status_shown))]
+pub fn power_status_shown()
     ensures { PowerStatusShown }
-{
-    0
-}
+{}
 
-pub fn cc_status_shown() -> u8
+#[tactic(auto, using(crate::proofs::Statuses::cc_status_shown))]
+pub fn cc_status_shown()
     ensures { CcStatusShown }
-{
-    0
-}
+{}

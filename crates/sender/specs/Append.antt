@@ -4,7 +4,8 @@ use Rattle.pd.specs.Lengths.{longest}
 use Rattle.transfer.specs.declared.refusal.Refusal.{Refusal}
 use Rattle.transfer.specs.declared.refusal.Refusal.TheVariants.{BufferOverrun}
 use Rattle.transfer.specs.Refusals.{Row, ◌when◌, first_holding, refused_or}
-use Rattle.sender.specs.Sendings.{Sending, with_buffer}
+use Rattle.sender.specs.Sendings.{with_buffer}
+use Rattle.sender.specs.declared.sender.Sender.{Sender}
 
 -- so many bytes more, to those that a buffer holds
 abbrev pub append_rows : ℕ → ℕ → List Row
@@ -17,10 +18,10 @@ unless_refused None before after = after
 
 -- what a sender holds after it was given bytes, and whether they are refused
 pub record Appending : Type 0 where
-  pub after : Sending
+  pub after : Sender
   pub answer : Result Unit Refusal
 
-abbrev pub appending : List ℕ → Sending → Appending
-appending more v =
-    let refused = first_holding (append_rows (length v.buffer) (length more)) in
-    record { after = unless_refused refused v (with_buffer (v.buffer ++ more) v); answer = refused_or refused tt }
+abbrev pub appending : List ℕ → Sender → Appending
+appending more s =
+    let refused = first_holding (append_rows (length s.buffer) (length more)) in
+    record { after = unless_refused refused s (with_buffer (s.buffer ++ more) s); answer = refused_or refused tt }

@@ -1,5 +1,5 @@
 pub mod Spans
-pub mod Types
+pub mod Texts
 pub mod Sendings
 pub mod Append
 pub mod Transmit

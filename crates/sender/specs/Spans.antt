@@ -1,4 +1,5 @@
 -- How many Ticks the spans of a sending have. Assumes nothing.
+-- Numbers of its own, not the program's constants, so that a wrong constant is refused.
 use Rattle.std.specs.Prelude.{ℕ}
 
 -- from a start of a message to Line Finished

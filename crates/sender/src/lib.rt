@@ -2,9 +2,8 @@
 //! Drives no front end: it tells what is to be put on the line.
 #![tactic(auto)]
 
-mod buffer;
-mod fields;
 mod sender;
+mod transmit;
 
-pub use fields::type_of;
 pub use sender::{Accepted, Course, End, Event, Sender};
+pub use transmit::{Transmit, type_of};

@@ -1,3 +1,2 @@
 pub mod Codes
-pub mod Lines
 pub mod Sinks

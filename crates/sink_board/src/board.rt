@@ -5,15 +5,15 @@ ghost use Rattle.sink_board.specs.Sinks.{sink_meaning, sink_alone};
 ghost use Rattle.std.proofs.Common.{rules};
 
 use crate::code;
-use crate::line::SinkLine;
+use crate::starts::Left;
 use crate::switches::SinkSwitches;
-use front_end::{Capabilities, FrontEnd, Line, Path, RpValue, Termination, Terminations, Vconn};
+use front_end::{BoardLine, Capabilities, FrontEnd, OnLine, Path, Terminations, Vconn};
 use pd::Message;
 
 #[derive(Drop)]
 pub struct SinkBoard {
     switches: SinkSwitches,
-    line: SinkLine,
+    line: BoardLine<Left>,
 }
 
 impl SinkBoard {
@@ -21,43 +21,36 @@ impl SinkBoard {
     pub fn new() -> SinkBoard
         ensures { sink_meaning result ≡ safe }
     {
-        let open = Terminations {
-            cc1: Termination::Open,
-            cc2: Termination::Open,
-            rp: RpValue::Default,
-        };
         SinkBoard {
             switches: SinkSwitches {
-                code: code::coded(open, false),
+                code: code::coded(Terminations::OPEN, false),
             },
-            line: SinkLine::new(),
+            line: BoardLine::new(),
         }
     }
 }
 
+impl Default for SinkBoard {
+    ghost is_default = { λ board. sink_meaning board ≡ safe };
+
+    fn default() -> SinkBoard {
+        SinkBoard::new()
+    }
+}
+
 impl FrontEnd for SinkBoard {
-    const HAS_DEFAULT_SOURCE: bool = false;
+    const CAPABILITIES: Capabilities = Capabilities {
+        default_source: false,
+        nondefault_source: false,
+        sink: true,
+        vconn: false,
+    };
 
-    const HAS_NONDEFAULT_SOURCE: bool = false;
-
-    const HAS_SINK: bool = true;
-
-    const HAS_VCONN: bool = false;
-
-    ghost has = { sink_alone };
+    ghost CAPABILITIES = { sink_alone };
 
     ghost meaning = { sink_meaning };
 
     ghost nondefault_source_implies_default_source = { Prim.search rules };
-
-    fn capabilities() -> Capabilities {
-        Capabilities {
-            default_source: Self::HAS_DEFAULT_SOURCE,
-            nondefault_source: Self::HAS_NONDEFAULT_SOURCE,
-            sink: Self::HAS_SINK,
-            vconn: Self::HAS_VCONN,
-        }
-    }
 
     fn set_terminations(&mut self, terminations: Terminations) {
         let sinks = code::sinks(self.switches.code);
@@ -67,7 +60,7 @@ impl FrontEnd for SinkBoard {
     fn set_vconn(&mut self, _vconn: Vconn) {}
 
     fn set_path(&mut self, path: Path) {
-        let terminations = code::terminations(self.switches.code);
+        let terminations = Terminations::from(self.switches.code);
         match path {
             Path::Off => self.switches.code = code::coded(terminations, false),
             Path::Sink => self.switches.code = code::coded(terminations, true),
@@ -88,7 +81,7 @@ impl FrontEnd for SinkBoard {
     }
 
     fn terminations(&self) -> Terminations {
-        code::terminations(self.switches.code)
+        self.switches.code.into()
     }
 
     fn vconn(&self) -> Vconn {
@@ -103,7 +96,7 @@ impl FrontEnd for SinkBoard {
         }
     }
 
-    fn line(&self) -> Line {
-        self.line.line()
+    fn line(&self) -> Option<OnLine<'_>> {
+        self.line.on_line()
     }
 }

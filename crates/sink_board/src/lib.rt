@@ -4,7 +4,7 @@
 
 mod board;
 mod code;
-mod line;
+mod starts;
 mod switches;
 
 pub use board::SinkBoard;

@@ -1,7 +1,10 @@
 -- The register list, and what it says of a transfer. Assumes nothing.
-use Rattle.std.specs.Prelude.{◌≡◌, ℕ, Bool, true, false, cond, not, ◌&&◌, ◌||◌, List, [], ◌∷◌, length, Some, None, Option, ◌==◌, nat_le}
+use Rattle.std.specs.Prelude.{◌≡◌, ℕ, Bool, true, false, not, ◌&&◌, List, [], ◌∷◌, length, Option, is_none, ◌==◌, nat_le, find}
+use Rattle.std.specs.List.{list_all}
+use Rattle.std.specs.Option.{option_map_or}
 use Rattle.transfer.specs.Refusals.{Row, ◌when◌}
 use Rattle.transfer.specs.declared.list.Access.{Access}
+use Rattle.transfer.specs.declared.list.Access.TheVariants.{ReadOnly, WriteOnly, ReadWrite}
 use Rattle.transfer.specs.declared.list.Direction.{Direction}
 use Rattle.transfer.specs.declared.list.Direction.TheVariants.{Read, Write}
 use Rattle.transfer.specs.declared.list.Register.{Register}
@@ -9,117 +12,96 @@ use Rattle.transfer.specs.declared.list.Width.{Width}
 use Rattle.transfer.specs.declared.list.Width.TheVariants.{Byte, Word, UpTo32, Counted}
 use Rattle.transfer.specs.declared.refusal.Refusal.TheVariants.{NotListed, WrongDirection, WrongLength}
 
-abbrev read_only : Access
-read_only = record { read = true; write = false }
+-- address, width and access; the width of a byte has its defined bits
+abbrev register : ℕ → Width → Access → Register
+register a w access = record { address = a; width = w; access = access }
 
-abbrev write_only : Access
-write_only = record { read = false; write = true }
-
-abbrev read_write : Access
-read_write = record { read = true; write = true }
-
--- address, width, access, and the defined bits of a register of one byte
-abbrev register : ℕ → Width → Access → ℕ → Register
-register a w access d = record { address = a; width = w; access = access; defined = d }
-
-unfoldable pub registers : List Register
+abbrev pub registers : List Register
 registers =
-    register 0x00 Word read_only 0xFF ∷
-    register 0x02 Word read_only 0xFF ∷
-    register 0x04 Word read_only 0xFF ∷
-    register 0x0A Word read_only 0xFF ∷
-    register 0x10 Word read_write 0xFF ∷
-    register 0x12 Word read_write 0xFF ∷
-    register 0x14 Byte read_write 0xFF ∷
-    register 0x15 Byte read_write 0xFF ∷
-    register 0x19 Byte read_write 0x01 ∷
-    register 0x1A Byte read_write 0x3F ∷
-    register 0x1C Byte read_write 0x61 ∷
-    register 0x1D Byte read_only 0xFF ∷
-    register 0x1E Byte read_only 0xFF ∷
-    register 0x1F Byte read_write 0xFF ∷
-    register 0x23 Byte write_only 0xFF ∷
-    register 0x24 Word read_only 0xFF ∷
-    register 0x2E Byte read_write 0x1F ∷
-    register 0x2F Byte read_write 0x3F ∷
-    register 0x30 UpTo32 read_only 0xFF ∷
-    register 0x50 Byte write_only 0x37 ∷
-    register 0x51 Counted write_only 0xFF ∷ []
+    register 0x00 Word ReadOnly ∷
+    register 0x02 Word ReadOnly ∷
+    register 0x04 Word ReadOnly ∷
+    register 0x0A Word ReadOnly ∷
+    register 0x10 Word ReadWrite ∷
+    register 0x12 Word ReadWrite ∷
+    register 0x14 (Byte 0xFF) ReadWrite ∷
+    register 0x15 (Byte 0xFF) ReadWrite ∷
+    register 0x19 (Byte 0x01) ReadWrite ∷
+    register 0x1A (Byte 0x3F) ReadWrite ∷
+    register 0x1C (Byte 0x61) ReadWrite ∷
+    register 0x1D (Byte 0xFF) ReadOnly ∷
+    register 0x1E (Byte 0xFF) ReadOnly ∷
+    register 0x1F (Byte 0xFF) ReadWrite ∷
+    register 0x23 (Byte 0xFF) WriteOnly ∷
+    register 0x24 Word ReadOnly ∷
+    register 0x2E (Byte 0x1F) ReadWrite ∷
+    register 0x2F (Byte 0x3F) ReadWrite ∷
+    register 0x30 UpTo32 ReadOnly ∷
+    register 0x50 (Byte 0x37) WriteOnly ∷
+    register 0x51 Counted WriteOnly ∷ []
 
 -- the first at an address
-abbrev pub lookup : List Register → ℕ → Option Register
-lookup [] a = None
-lookup (r ∷ rs) a = cond (r.address == a) (Some r) (lookup rs a)
-
 unfoldable pub listed : ℕ → Option Register
-listed a = lookup registers a
-
-abbrev pub is_listed : Option Register → Bool
-is_listed None = false
-is_listed (Some r) = true
-
--- what stands for an address that is not listed: nothing may be done there
-abbrev pub or_nothing : Option Register → Register
-or_nothing None = record { address = 0; width = Byte; access = record { read = false; write = false }; defined = 0 }
-or_nothing (Some r) = r
-
-abbrev pub entry : ℕ → Register
-entry a = or_nothing (listed a)
+listed a = find (λ r. r.address == a) registers
 
 -- how many bytes of a register may be read or written
 abbrev pub takes : Width → ℕ → Bool
-takes Byte n = n == 1
+takes (Byte defined) n = n == 1
 takes Word n = n == 2
 takes UpTo32 n = nat_le 1 n && nat_le n 32
 takes Counted n = nat_le 1 n
 
 abbrev pub is_counted : Width → Bool
-is_counted Byte = false
+is_counted (Byte defined) = false
 is_counted Word = false
 is_counted UpTo32 = false
 is_counted Counted = true
 
--- how a write transfer is taken apart by the address: a count and bytes at 51h, a byte or a word elsewhere
-abbrev pub taken_apart_at : ℕ → Width → Bool
-taken_apart_at a Byte = not (a == 0x51)
-taken_apart_at a Word = not (a == 0x51)
-taken_apart_at a UpTo32 = false
-taken_apart_at a Counted = a == 0x51
-
--- and no other register may be written
-abbrev pub taken_apart : ℕ → Register → Bool
-taken_apart a r = not r.access.write || taken_apart_at a r.width
-
--- how much is read: up to 32 bytes at 30h, a byte or a word elsewhere
-abbrev pub read_at : ℕ → Width → Bool
-read_at a Byte = true
-read_at a Word = true
-read_at a UpTo32 = a == 0x30
-read_at a Counted = false
-
--- and no other register may be read
-abbrev pub short_or_buffer : ℕ → Register → Bool
-short_or_buffer a r = not r.access.read || read_at a r.width
-
 abbrev pub allows : Access → Direction → Bool
-allows access Read = access.read
-allows access Write = access.write
+allows ReadOnly Read = true
+allows ReadOnly Write = false
+allows WriteOnly Read = false
+allows WriteOnly Write = true
+allows ReadWrite direction = true
+
+-- what may be done at an address: where no register is listed, nothing
+abbrev pub allowed_at : ℕ → Direction → Bool
+allowed_at a direction = option_map_or (λ r. allows r.access direction) (listed a) false
+
+-- how wide its register is: where no register is listed, a byte without bits
+abbrev pub width_at : ℕ → Width
+width_at a = option_map_or (λ r. r.width) (listed a) (Byte 0)
+
+-- the bits that a byte has; wider registers have all of theirs
+abbrev pub defined_bits : Width → ℕ
+defined_bits (Byte defined) = defined
+defined_bits Word = 0xFF
+defined_bits UpTo32 = 0xFF
+defined_bits Counted = 0xFF
 
 -- address, then direction, then number of bytes
 abbrev pub list_rows : ℕ → Direction → ℕ → List Row
 list_rows a direction n =
-    (NotListed when not (is_listed (listed a))) ∷
-    (WrongDirection when not (allows (entry a).access direction)) ∷
-    (WrongLength when not (takes (entry a).width n)) ∷ []
+    (NotListed when is_none (listed a)) ∷
+    (WrongDirection when not (allowed_at a direction)) ∷
+    (WrongLength when not (takes (width_at a) n)) ∷ []
 
--- no register of the list is at this address
-abbrev pub absent : ℕ → List Register → Bool
-absent a [] = true
-absent a (r ∷ rs) = not (r.address == a) && absent a rs
+-- what the address alone tells of the width: a count and bytes are written at 51h, up to 32 bytes are read at 30h,
+-- and a byte or a word elsewhere
+abbrev pub told_by_address : ℕ → Direction → Width → Bool
+told_by_address a Read (Byte defined) = not (a == 0x30)
+told_by_address a Read Word = not (a == 0x30)
+told_by_address a Read UpTo32 = a == 0x30
+told_by_address a Read Counted = false
+told_by_address a Write (Byte defined) = not (a == 0x51)
+told_by_address a Write Word = not (a == 0x51)
+told_by_address a Write UpTo32 = false
+told_by_address a Write Counted = a == 0x51
 
+-- no address stands twice
 abbrev pub distinct : List Register → Bool
 distinct [] = true
-distinct (r ∷ rs) = absent r.address rs && distinct rs
+distinct (r ∷ rs) = list_all (λ x. not (x.address == r.address)) rs && distinct rs
 
 -- the list is as long as it is said to be, and no address stands twice
 abbrev pub Sound : Type 0

@@ -1,4 +1,5 @@
 //! The addresses of the 21 registers.
+//! Numbers and nothing else, since a transfer may name any number; the list says which of them stand for what.
 pub const VENDOR_ID: u8 = 0x00;
 
 pub const PRODUCT_ID: u8 = 0x02;

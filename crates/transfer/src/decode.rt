@@ -4,11 +4,12 @@ ghost use Rattle.std.specs.Prelude.{◌≡◌, ◌≤◌, true, false, is_ok, �
 ghost use Rattle.transfer.specs.Refusals.{first_holding, refused_or};
 ghost use Rattle.transfer.specs.Decode.{write_rows, read_rows, written, asked, all_asked};
 
-use crate::list::{Direction, listed_for};
+use crate::address::TRANSMIT_BUFFER;
+use crate::list::{Direction, Width, listed_for};
 use crate::refusal::Refusal;
 
 /// What a write transfer asks for. Bytes for the transmit buffer stay part of the transfer.
-#[derive(Clone, Copy)]
+#[derive(Clone, Copy, Debug, PartialEq, Eq)]
 pub enum WriteRequest<'a> {
     /// The defined bits of a value, and whether a one was written to another bit.
     Byte {
@@ -24,7 +25,7 @@ pub enum WriteRequest<'a> {
 }
 
 /// So many bytes of a register, which its width allows and the reader's buffer has room for.
-#[derive(Clone, Copy)]
+#[derive(Clone, Copy, Debug, PartialEq, Eq)]
 pub struct ReadRequest {
     pub register: u8,
     pub wanted: usize,
@@ -33,27 +34,26 @@ pub struct ReadRequest {
 pub fn decode_write(transfer: &[u8]) -> Result<WriteRequest<'_>, Refusal>
     ensures { all_asked result ≡ refused_or (first_holding (write_rows transfer.now)) (written transfer.now) }
 {
-    let [register, ..] = transfer else {
-        return Err(Refusal::NoRegister);
-    };
-    let listed = listed_for(*register, Direction::Write, transfer.len() - 1)?;
-    match transfer {
-        [0x51, count, rest @ ..] => {
-            if *count as usize == rest.len() {
+    let (register, data) = transfer.split_first().ok_or(Refusal::NoRegister)?;
+    let width = listed_for(*register, Direction::Write, data.len())?;
+    match (width, transfer) {
+        (Width::Counted, [TRANSMIT_BUFFER, count, rest @ ..]) => {
+            if usize::from(*count) == rest.len() {
                 Ok(WriteRequest::Append(rest))
             } else {
                 Err(Refusal::WrongCount)
             }
         }
-        [register, value] => Ok(WriteRequest::Byte {
+        (Width::Byte { defined }, [register, value]) => Ok(WriteRequest::Byte {
             register: *register,
-            value: *value & listed.defined,
-            stray: *value & !listed.defined != 0,
+            value: value & defined,
+            stray: value & !defined != 0,
         }),
-        [register, lo, hi] => Ok(WriteRequest::Word {
+        (Width::Word, [register, lo, hi]) => Ok(WriteRequest::Word {
             register: *register,
             value: u16::from_le_bytes([*lo, *hi]),
         }),
+        // The list lets no other length through.
         _ => Err(Refusal::WrongLength),
     }
 }

@@ -1,24 +1,26 @@
 //! The capabilities of each board.
-use front_end::FrontEnd;
+use front_end::{Capabilities, FrontEnd};
 use relay_board::RelayBoard;
 use sink_board::SinkBoard;
 
 #[test]
 fn relay_board_has_everything(rt: HostRuntime) {
-    assert!(rt; <RelayBoard as FrontEnd>::HAS_DEFAULT_SOURCE);
-    assert!(rt; <RelayBoard as FrontEnd>::HAS_NONDEFAULT_SOURCE);
-    assert!(rt; <RelayBoard as FrontEnd>::HAS_SINK);
-    assert!(rt; <RelayBoard as FrontEnd>::HAS_VCONN);
-    let has = <RelayBoard as FrontEnd>::capabilities();
-    assert!(rt; has.default_source && has.nondefault_source && has.sink && has.vconn);
+    let everything = Capabilities {
+        default_source: true,
+        nondefault_source: true,
+        sink: true,
+        vconn: true,
+    };
+    assert_eq!(rt; <RelayBoard as FrontEnd>::CAPABILITIES, everything);
 }
 
 #[test]
 fn sink_board_sinks_alone(rt: HostRuntime) {
-    assert!(rt; !<SinkBoard as FrontEnd>::HAS_DEFAULT_SOURCE);
-    assert!(rt; !<SinkBoard as FrontEnd>::HAS_NONDEFAULT_SOURCE);
-    assert!(rt; <SinkBoard as FrontEnd>::HAS_SINK);
-    assert!(rt; !<SinkBoard as FrontEnd>::HAS_VCONN);
-    let has = <SinkBoard as FrontEnd>::capabilities();
-    assert!(rt; !has.default_source && !has.nondefault_source && has.sink && !has.vconn);
+    let sink_alone = Capabilities {
+        default_source: false,
+        nondefault_source: false,
+        sink: true,
+        vconn: false,
+    };
+    assert_eq!(rt; <SinkBoard as FrontEnd>::CAPABILITIES, sink_alone);
 }

@@ -2,17 +2,22 @@
 use pd::{Header, Kind, Message};
 use std::test::Fail;
 
-/// MESSAGE_HEADER_INFO at power on: revision 2.0, all else 0.
-const POWER_ON_INFO: u8 = 0x02;
+/// A MESSAGE_HEADER_INFO: revision 2.0, all else 0.
+const INFO: u8 = 0x02;
 
 #[test]
 fn frame_of_sop_is_acknowledged_with_41h_02h(rt: HostRuntime) -> Result<(), Fail> {
     let Some(frame) = Message::arrived(0, &[0xA6, 0x03]) else {
         return Err(Fail::new("two bytes of type 0 are in range"));
     };
-    let given = Header::good_crc(POWER_ON_INFO, frame.kind(), frame.header());
-    assert_eq!(rt; given.low, 0x41);
-    assert_eq!(rt; given.high, 0x02);
+    let given = Header::good_crc(INFO, frame.kind(), frame.header());
+    assert_eq!(rt;
+        given,
+        Header {
+            low: 0x41,
+            high: 0x02
+        }
+    );
     Ok(())
 }
 
@@ -23,8 +28,13 @@ fn cable_plug_gets_no_data_role(rt: HostRuntime) {
         high: 0x03,
     };
     let given = Header::good_crc(0x1B, Kind::SopPrime, received);
-    assert_eq!(rt; given.low, 0x41);
-    assert_eq!(rt; given.high, 0x03);
+    assert_eq!(rt;
+        given,
+        Header {
+            low: 0x41,
+            high: 0x03
+        }
+    );
 }
 
 #[test]

@@ -2,78 +2,84 @@
 //! Judging and acting are apart, so that a refused write alters nothing.
 ghost use Rattle.std.specs.Prelude.{◌≡◌, Some};
 ghost use Rattle.pd.specs.Kinds.{number_of};
-ghost use Rattle.pd.specs.Messages.{content, contents};
 ghost use Rattle.transfer.specs.Refusals.{first_holding, refused_or};
-ghost use Rattle.sender.specs.Sendings.{sending_of, with_buffer, with_under};
-ghost use Rattle.sender.specs.Types.{is_message};
-ghost use Rattle.sender.specs.Transmit.{transmit_rows, transmitting, accepting, accepted, begun, buffer_after};
+ghost use Rattle.sender.specs.Sendings.{with_buffer};
+ghost use Rattle.sender.specs.Transmit.{waits_for, transmit_rows, transmitting, accepting, accepted, begun, buffer_after};
 
-use crate::buffer::Buffer;
-use crate::fields::{retries_of, type_of};
-use crate::sender::{Accepted, End, START_TICKS, Sender, State, is_hard_reset};
-use pd::{Kind, Message};
+use crate::sender::{Accepted, End, SIGNALLING_TICKS, START_TICKS, Sender, State};
+use crate::transmit::Transmit;
+use pd::{Bytes, Kind, Message, SHORTEST};
+use std::mem;
 use transfer::Refusal;
 
-/// The fewest bytes of a message: its header.
-const SHORTEST: usize = 2;
-
-/// The Ticks from the acceptance of a reset to Line Finished.
-const SIGNALLING_TICKS: u8 = 50;
-
-fn is_message(kind: Kind) -> bool
-    ensures { result ≡ is_message (number_of kind) }
+/// A sending with its first span before it.
+fn begun(message: &Message, retries: u8) -> State
+    ensures { result ≡ begun message.now retries }
 {
-    !matches!(kind, Kind::HardReset | Kind::CableReset)
+    if message.kind().is_message() {
+        State::Starting {
+            sent: *message,
+            retries,
+            left: START_TICKS,
+        }
+    } else {
+        State::Signalling {
+            sent: *message,
+            left: SIGNALLING_TICKS,
+        }
+    }
 }
 
 impl Sender {
-    /// Whether a write of `value` to TRANSMIT is taken.
-    pub fn judge(&self, value: u8) -> Result<(), Refusal>
-        ensures { result ≡ refused_or (first_holding (transmit_rows (sending_of self.now) value)) tt }
+    fn waits_for(&self, kind: Kind) -> bool
+        ensures { result ≡ waits_for (number_of kind) self.now.under }
     {
-        let Some(kind) = Kind::from_number(type_of(value)) else {
-            return Err(Refusal::UnknownType);
-        };
-        if is_message(kind) && self.buffer.len() < SHORTEST {
-            return Err(Refusal::NothingToSend);
-        }
-        let waits = if is_hard_reset(kind) {
+        if kind == Kind::HardReset {
             self.hard_reset_under_way()
         } else {
             self.is_under_way()
-        };
-        if waits {
-            Err(Refusal::SendingUnderWay)
-        } else {
-            Ok(())
         }
+    }
+
+    /// Whether a write of `value` to TRANSMIT is taken.
+    pub fn judge(&self, value: u8) -> Result<(), Refusal>
+        ensures { result ≡ refused_or (first_holding (transmit_rows self.now value)) tt }
+    {
+        let kind = Transmit::try_from(value)?.kind;
+        if kind.is_message() && self.buffer.len() < SHORTEST {
+            return Err(Refusal::NothingToSend);
+        }
+        if self.waits_for(kind) {
+            return Err(Refusal::SendingUnderWay);
+        }
+        Ok(())
     }
 
     /// Acts on a write of `value` to TRANSMIT that is taken; `held_back` while ALERT bit 2 or 3 is 1.
     pub fn transmit(&mut self, value: u8, held_back: bool) -> Accepted
-        ensures { record { after = sending_of self.new; started = contents result.started; ended = result.ended } ≡ transmitting value held_back (sending_of self.old) }
+        ensures { record { after = self.new; started = result.started; ended = result.ended } ≡ transmitting value held_back self.old }
     {
-        match Kind::from_number(type_of(value)) {
-            Some(kind) => self.accept(kind, retries_of(value), held_back),
-            None => Accepted {
+        match Transmit::try_from(value) {
+            Ok(asked) => self.accept(asked, held_back),
+            Err(_) => Accepted {
                 started: None,
                 ended: None,
             },
         }
     }
 
-    fn accept(&mut self, kind: Kind, retries: u8, held_back: bool) -> Accepted
-        ensures { record { after = sending_of self.new; started = contents result.started; ended = result.ended } ≡ accepting (Some kind) retries held_back (sending_of self.old) }
+    fn accept(&mut self, asked: Transmit, held_back: bool) -> Accepted
+        ensures { record { after = self.new; started = result.started; ended = result.ended } ≡ accepting (Some asked.kind) asked.retries held_back self.old }
     {
         let earlier = self.discard();
-        let message = self.take_message(kind);
-        if held_back && !is_hard_reset(kind) {
+        let message = self.take_message(asked.kind);
+        if held_back && asked.kind != Kind::HardReset {
             return Accepted {
                 started: None,
                 ended: Some(End::Discarded),
             };
         }
-        self.begin(message, retries);
+        self.under = begun(&message, asked.retries);
         Accepted {
             started: Some(message),
             ended: earlier,
@@ -82,28 +88,12 @@ impl Sender {
 
     /// A message with the buffered bytes, which leave the buffer, or a reset without bytes.
     fn take_message(&mut self, kind: Kind) -> Message
-        ensures taken { content result ≡ accepted kind (sending_of self.old).buffer }
-        ensures left { sending_of self.new ≡ with_buffer (buffer_after kind (sending_of self.old).buffer) (sending_of self.old) }
+        ensures taken { result ≡ accepted kind self.old.buffer }
+        ensures left { self.new ≡ with_buffer (buffer_after kind self.old.buffer) self.old }
     {
-        if !is_message(kind) {
+        if !kind.is_message() {
             return Message::without_bytes(kind);
         }
-        let message = self.buffer.message(kind);
-        self.buffer = Buffer::empty();
-        message
-    }
-
-    fn begin(&mut self, message: Message, retries: u8)
-        ensures { sending_of self.new ≡ with_under (begun (content message) retries) (sending_of self.old) }
-    {
-        self.state = if is_message(message.kind()) {
-            State::Starting { left: START_TICKS }
-        } else {
-            State::Signalling {
-                left: SIGNALLING_TICKS,
-            }
-        };
-        self.message = message;
-        self.retries = retries;
+        Message::holding(kind, mem::replace(&mut self.buffer, Bytes::new()))
     }
 }

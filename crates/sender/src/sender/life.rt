@@ -1,20 +1,13 @@
 //! The life of a sending: a Tick passes, the line has finished, or a GoodCRC came.
 //! Tells what became of the sending; what the front end is to do follows from that.
-ghost use Rattle.std.specs.Prelude.{◌≡◌, ◌-◌, ◌<◌};
-ghost use Rattle.pd.specs.Messages.{content};
+ghost use Rattle.std.specs.Prelude.{◌≡◌, ◌-◌, ◌<◌, Some};
 ghost use Rattle.sender.specs.Life.{acknowledges, moved, happening};
-ghost use Rattle.sender.specs.Sendings.{sending_of, in_state, none, starting};
-ghost use Rattle.sender.specs.Spans.{start_span};
-ghost use Rattle.sender.specs.declared.sender.life.Course.TheVariants as course;
 
-use crate::sender::{End, START_TICKS, Sender, State};
-use pd::Kind;
-
-/// The Ticks of the wait for a GoodCRC.
-const WAIT_TICKS: u8 = 10;
+use crate::sender::{End, START_TICKS, Sender, State, WAIT_TICKS};
+use pd::{Kind, Message};
 
 /// What can happen to the sending under way.
-#[derive(Clone, Copy)]
+#[derive(Clone, Copy, Debug, PartialEq, Eq)]
 pub enum Event {
     Tick,
     LineFinished,
@@ -23,74 +16,73 @@ pub enum Event {
 }
 
 /// What became of the sending under way.
-#[derive(Clone, Copy)]
+#[derive(Clone, Copy, Debug, PartialEq, Eq)]
 pub enum Course {
-    /// Nothing: there is none that the event concerns.
-    Unmoved,
     GoesOn,
     StartsAgain,
     Ended(End),
 }
 
+/// One Tick less of a span, which goes on.
+fn goes_on(left: &mut u8) -> Option<Course>
+    requires { 0 < left.old }
+    ensures span { left.new ≡ left.old - 1 }
+    ensures course { result ≡ Some Course.GoesOn }
+{
+    *left -= 1;
+    Some(Course::GoesOn)
+}
+
+fn acknowledges(kind: Kind, id: u8, message: &Message) -> bool
+    ensures { result ≡ acknowledges kind id message.now }
+{
+    kind == message.kind() && id == message.header().message_id()
+}
+
 impl Sender {
-    fn is_awaited(&self, kind: Kind, id: u8) -> bool
-        ensures { result ≡ acknowledges kind id (content self.now.message) }
+    fn end(&mut self, end: End) -> Option<Course>
+        ensures { record { after = self.new; course = result } ≡ moved State.Idle (Some (Course.Ended end)) self.old }
     {
-        kind.number() == self.message.kind().number() && id == self.message.header().message_id()
+        self.under = State::Idle;
+        Some(Course::Ended(end))
     }
 
-    fn end(&mut self, end: End) -> Course
-        ensures { record { after = sending_of self.new; course = result } ≡ moved none (course.Ended end) (sending_of self.old) }
+    /// What an event makes of the sending under way; nothing where there is none that it concerns.
+    pub fn happen(&mut self, event: Event) -> Option<Course>
+        ensures { record { after = self.new; course = result } ≡ happening event self.old }
     {
-        self.state = State::Idle;
-        Course::Ended(end)
-    }
-
-    fn goes_on(&mut self, state: State) -> Course
-        ensures { record { after = sending_of self.new; course = result } ≡ moved (in_state state (content self.old.message) self.old.retries) course.GoesOn (sending_of self.old) }
-    {
-        self.state = state;
-        Course::GoesOn
-    }
-
-    fn start_again(&mut self) -> Course
-        requires { 0 < self.old.retries }
-        ensures { record { after = sending_of self.new; course = result } ≡ moved (starting (content self.old.message) (self.old.retries - 1) start_span) course.StartsAgain (sending_of self.old) }
-    {
-        self.retries -= 1;
-        self.state = State::Starting { left: START_TICKS };
-        Course::StartsAgain
-    }
-
-    /// What an event makes of the sending under way.
-    pub fn happen(&mut self, event: Event) -> Course
-        ensures { record { after = sending_of self.new; course = result } ≡ happening event (sending_of self.old) }
-    {
-        match (self.state, event) {
-            (State::Starting { left }, Event::Tick) if left > 1 => {
-                self.goes_on(State::Starting { left: left - 1 })
-            }
-            (State::Waiting { left }, Event::Tick) if left > 1 => {
-                self.goes_on(State::Waiting { left: left - 1 })
-            }
-            (State::Signalling { left }, Event::Tick) if left > 1 => {
-                self.goes_on(State::Signalling { left: left - 1 })
-            }
-            (State::Starting { .. } | State::Waiting { .. }, Event::Tick) if self.retries > 0 => {
-                self.start_again()
+        match (&mut self.under, event) {
+            // An arm each: no proof follows one `left` lent out of three states.
+            (State::Starting { left, .. }, Event::Tick) if *left > 1 => goes_on(left),
+            (State::Waiting { left, .. }, Event::Tick) if *left > 1 => goes_on(left),
+            (State::Signalling { left, .. }, Event::Tick) if *left > 1 => goes_on(left),
+            (
+                &mut (State::Starting { sent, retries, .. } | State::Waiting { sent, retries, .. }),
+                Event::Tick,
+            ) if retries > 0 => {
+                self.under = State::Starting {
+                    sent,
+                    retries: retries - 1,
+                    left: START_TICKS,
+                };
+                Some(Course::StartsAgain)
             }
             (
                 State::Starting { .. } | State::Waiting { .. } | State::Signalling { .. },
                 Event::Tick,
-            ) => { self.end(End::Failed) }
-            (State::Starting { .. }, Event::LineFinished) => {
-                self.goes_on(State::Waiting { left: WAIT_TICKS })
+            ) => self.end(End::Failed),
+            (&mut State::Starting { sent, retries, .. }, Event::LineFinished) => {
+                self.under = State::Waiting {
+                    sent,
+                    retries,
+                    left: WAIT_TICKS,
+                };
+                Some(Course::GoesOn)
             }
             (State::Signalling { .. }, Event::LineFinished) => self.end(End::Signalled),
-            (State::Waiting { .. }, Event::GoodCrc { kind, id }) if self.is_awaited(kind, id) => {
-                self.end(End::Succeeded)
-            }
-            _ => Course::Unmoved,
+            (State::Waiting { sent, .. }, Event::GoodCrc { kind, id })
+                if acknowledges(kind, id, sent) => self.end(End::Succeeded),
+            _ => None,
         }
     }
 }
