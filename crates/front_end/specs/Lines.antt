@@ -5,9 +5,9 @@ use Rattle.front_end.specs.Meaning.{Carried, idle, sending}
 use Rattle.front_end.specs.declared.line.BoardLine.{BoardLine}
 
 -- a sending, with the number of its starts by how the board counts them
-abbrev pub kept_as : {S : Type 0} → (S → ℕ) → Option (Message × S) → Carried
-kept_as made None = idle
-kept_as made (Some (m, s)) = sending m (made s)
+abbrev pub kept_as : {S : Type 0} → (S → ℕ) → Message → Option S → Carried
+kept_as made m None = idle
+kept_as made m (Some s) = sending m (made s)
 
 abbrev pub carried : {S : Type 0} → (S → ℕ) → BoardLine S → Carried
-carried made l = kept_as made l.sending
+carried made l = kept_as made l.message l.starts

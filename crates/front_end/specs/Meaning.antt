@@ -73,7 +73,7 @@ again_line (sending m starts) = sending m (min most_starts (starts + 1))
 -- what an answer says of the line
 abbrev pub on_line : Option OnLine → Carried
 on_line None = idle
-on_line (Some l) = sending l.message.now l.starts
+on_line (Some l) = sending l.message l.starts
 
 -- each part anew, the others kept
 abbrev pub with_terminations : Terminations → Meaning → Meaning

@@ -48,8 +48,8 @@ pub trait FrontEnd {
     fn path(&self) -> Path
         ensures { result ≡ (meaning self.now).path };
 
-    /// The sending on the line, lent; none on an idle line.
-    fn line(&self) -> Option<OnLine<'_>>
+    /// The sending on the line, as a value of its own: the front end may keep it in any form. None on an idle line.
+    fn line(&self) -> Option<OnLine>
         ensures { on_line result ≡ (meaning self.now).line };
 
     ghost nondefault_source_implies_default_source: { Graded CAPABILITIES };

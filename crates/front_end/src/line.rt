@@ -5,15 +5,15 @@ ghost use Rattle.front_end.specs.Meaning.{idle, started, again_line, on_line};
 ghost use Rattle.front_end.specs.Lines.{carried};
 ghost use Rattle.front_end.specs.Starts.{most_starts};
 
-use pd::Message;
+use pd::{Kind, Message};
 
 /// The most starts of a sending: one and three retries.
 pub const MOST_STARTS: u8 = 4;
 
 /// A sending on the line, and how often it was started.
 #[derive(Clone, Copy)]
-pub struct OnLine<'a> {
-    pub message: &'a Message,
+pub struct OnLine {
+    pub message: Message,
     pub starts: u8,
 }
 
@@ -33,30 +33,38 @@ pub trait Starts: Copy {
         ensures { result ≡ made self };
 }
 
-/// What a board keeps of its line.
+/// What a board keeps of its line. The message stands beside the `Option` and not in it, since no proof follows a board
+/// by value into code that is generic over front ends where an enum in the board holds a message.
 #[derive(Drop)]
 pub struct BoardLine<S: Starts> {
-    sending: Option<(Message, S)>,
+    /// The sending on the line, or the last that was.
+    message: Message,
+    /// None on an idle line.
+    starts: Option<S>,
 }
 
 impl<S: Starts> BoardLine<S> {
     pub fn new() -> BoardLine<S>
         ensures { carried S.made result ≡ idle }
     {
-        BoardLine { sending: None }
+        BoardLine {
+            message: Message::without_bytes(Kind::Sop),
+            starts: None,
+        }
     }
 
     /// In place of what was there.
     pub fn send(&mut self, message: &Message)
         ensures { carried S.made self.new ≡ started message.now }
     {
-        self.sending = Some((*message, S::first()));
+        self.message = *message;
+        self.starts = Some(S::first());
     }
 
     pub fn again(&mut self)
         ensures { carried S.made self.new ≡ again_line (carried S.made self.old) }
     {
-        if let Some((_, starts)) = &mut self.sending {
+        if let Some(starts) = &mut self.starts {
             *starts = starts.again();
         }
     }
@@ -64,16 +72,16 @@ impl<S: Starts> BoardLine<S> {
     pub fn quiet(&mut self)
         ensures { carried S.made self.new ≡ idle }
     {
-        self.sending = None;
+        self.starts = None;
     }
 
-    /// What is on the line, lent.
-    pub fn on_line(&self) -> Option<OnLine<'_>>
+    /// What is on the line, copied.
+    pub fn on_line(&self) -> Option<OnLine>
         ensures { on_line result ≡ carried S.made self.now }
     {
-        let (message, starts) = self.sending.as_ref()?;
+        let starts = self.starts?;
         Some(OnLine {
-            message,
+            message: self.message,
             starts: starts.made(),
         })
     }

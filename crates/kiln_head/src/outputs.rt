@@ -7,15 +7,15 @@ use front_end::{FrontEnd, OnLine, Path, Terminations, Vconn};
 use std::fmt;
 
 #[derive(Clone, Copy)]
-pub(crate) struct Outputs<'a> {
+pub(crate) struct Outputs {
     terminations: Terminations,
     vconn: Vconn,
     path: Path,
-    line: Option<OnLine<'a>>,
+    line: Option<OnLine>,
 }
 
-impl<'a> Outputs<'a> {
-    pub(crate) fn of<F: FrontEnd>(front: &'a F) -> Outputs<'a>
+impl Outputs {
+    pub(crate) fn of<F: FrontEnd>(front: &F) -> Outputs
         ensures { shown result ≡ F.meaning front.now }
     {
         Outputs {
@@ -37,7 +37,7 @@ impl<'a> Outputs<'a> {
     }
 }
 
-impl<'a> fmt::Display for Outputs<'a> {
+impl fmt::Display for Outputs {
     fn fmt<W: fmt::Write>(&self, f: &mut fmt::Formatter<W>) -> fmt::Result {
         let Terminations { cc1, cc2, rp } = self.terminations;
         write!(

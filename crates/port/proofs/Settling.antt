@@ -29,7 +29,7 @@ none_rise : (s : Registers) (p : Path) → risen s p s p ≡ 0
 unfolding risen
 none_rise s p = grind (arith, common_steps, lacking)
 
-quiet : (v : View) → settled_since v v ≡ v
+pub quiet : (v : View) → settled_since v v ≡ v
 quiet v = grind (arith, none_rise, or_zero_r)
 
 faulted_alone : (v : View) (b : Bool) → settled_since v (cond b (with_registers (faulted 1 v.registers) v) v) ≡ cond b (interface_fault v) v

@@ -7,14 +7,14 @@ use Rattle.registers.specs.File as file
 use Rattle.registers.specs.declared.file.Identifiers.{Identifiers}
 use Rattle.registers.specs.declared.file.Registers.{Registers}
 use Rattle.sender.specs.Sendings as sender
-use Rattle.sender.specs.declared.sender.Sender.{Sender}
+use Rattle.sender.specs.Sendings.{Sending}
 use Rattle.port.specs.declared.port.Port.{Port}
 
 -- all that a port holds
 pub record View : Type 0 where
   pub registers : Registers
   pub receiving : Receiver
-  pub sending : Sender
+  pub sending : Sending
   pub meaning : Meaning
 
 abbrev pub view : {F : Type 0} → (F → Meaning) → Port F → View
@@ -34,6 +34,9 @@ with_registers s v = record v { registers = s }
 
 abbrev pub with_receiving : Receiver → View → View
 with_receiving r v = record v { receiving = r }
+
+abbrev pub with_sending : Sending → View → View
+with_sending s v = record v { sending = s }
 
 abbrev pub with_meaning : Meaning → View → View
 with_meaning m v = record v { meaning = m }

@@ -19,10 +19,9 @@ use Rattle.registers.specs.declared.command.Effect.TheVariants.{Detect, Switch, 
 use Rattle.registers.specs.declared.file.Registers.{Registers}
 use Rattle.registers.specs.declared.front.Front.{Front}
 use Rattle.sender.specs.Append.{appending}
-use Rattle.sender.specs.Sendings.{with_buffer}
+use Rattle.sender.specs.Sendings.{Sending, with_buffer}
 use Rattle.sender.specs.Transmit.{Transmitting, transmitting, type_of, waits_for}
 use Rattle.sender.specs.declared.sender.End.{End}
-use Rattle.sender.specs.declared.sender.Sender.{Sender}
 use Rattle.transfer.specs.Decode.{Asked, byte, word, append, write_rows, written}
 use Rattle.transfer.specs.Refusals.{Row, ◌when◌, first_holding}
 use Rattle.transfer.specs.declared.refusal.Refusal.TheVariants.{BufferOverrun, UnknownCommand, UnknownType, LacksCapability, NeedNotMet, NothingToSend, SendingUnderWay}
@@ -60,13 +59,13 @@ abbrev pub releases : Asked → Bool
 releases w = word_at 0x10 w && any_of 4 (value w)
 
 -- the bytes appended to the transmit buffer
-abbrev pub appended : Asked → Sender → Sender
+abbrev pub appended : Asked → Sending → Sending
 appended (byte register v stray) s = s
 appended (word register v) s = s
 appended (append bytes) s = (appending bytes s).after
 
 -- what becomes of buffer and sending under way, what is put on the line, what ended; held back while ALERT bit 2 or 3 is 1
-abbrev pub transmission : Asked → Bool → Sender → Transmitting
+abbrev pub transmission : Asked → Bool → Sending → Transmitting
 transmission w held s = cond (byte_at 0x50 w) (transmitting (value w) held s) (record { after = appended w s; started = None; ended = None })
 
 -- the waiting frames: less the oldest if released, none after a Hard Reset

@@ -3,8 +3,7 @@
 ghost use Rattle.std.specs.Prelude.{◌≡◌, false};
 ghost use Rattle.transfer.specs.Decode.{asked, byte};
 ghost use Rattle.transfer.specs.Refusals.{first_holding, refused_or};
-ghost use Rattle.registers.specs.File.{with_detection};
-ghost use Rattle.registers.specs.Writes.{value_rows, effect_of, stored, bad_role};
+ghost use Rattle.registers.specs.Writes.{value_rows, effect_of, stored, bad_role, detecting};
 
 use crate::alerts::INTERFACE_ERROR;
 use crate::command::{Effect, command};
@@ -91,10 +90,12 @@ impl Registers {
         }
     }
 
-    /// Switches VBUS detection.
-    pub fn detect(&mut self, on: bool)
-        ensures { self.new ≡ with_detection on self.old }
+    /// Switches VBUS detection, if that is the effect.
+    pub fn detect(&mut self, effect: Option<Effect>)
+        ensures { self.new ≡ detecting effect self.old }
     {
-        self.detection = on;
+        if let Some(Effect::Detect(on)) = effect {
+            self.detection = on;
+        }
     }
 }

@@ -152,7 +152,7 @@ impl FrontEnd for RelayBoard {
         }
     }
 
-    fn line(&self) -> Option<OnLine<'_>> {
+    fn line(&self) -> Option<OnLine> {
         self.line.on_line()
     }
 }

@@ -4,8 +4,7 @@ use Rattle.pd.specs.Lengths.{longest}
 use Rattle.transfer.specs.declared.refusal.Refusal.{Refusal}
 use Rattle.transfer.specs.declared.refusal.Refusal.TheVariants.{BufferOverrun}
 use Rattle.transfer.specs.Refusals.{Row, ◌when◌, first_holding, refused_or}
-use Rattle.sender.specs.Sendings.{with_buffer}
-use Rattle.sender.specs.declared.sender.Sender.{Sender}
+use Rattle.sender.specs.Sendings.{Sending, with_buffer}
 
 -- so many bytes more, to those that a buffer holds
 abbrev pub append_rows : ℕ → ℕ → List Row
@@ -18,10 +17,10 @@ unless_refused None before after = after
 
 -- what a sender holds after it was given bytes, and whether they are refused
 pub record Appending : Type 0 where
-  pub after : Sender
+  pub after : Sending
   pub answer : Result Unit Refusal
 
-abbrev pub appending : List ℕ → Sender → Appending
+abbrev pub appending : List ℕ → Sending → Appending
 appending more s =
     let refused = first_holding (append_rows (length s.buffer) (length more)) in
     record { after = unless_refused refused s (with_buffer (s.buffer ++ more) s); answer = refused_or refused tt }

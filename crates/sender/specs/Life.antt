@@ -5,10 +5,9 @@ use Rattle.pd.specs.Kinds.{number_of}
 use Rattle.pd.specs.Messages.{header}
 use Rattle.pd.specs.declared.kind.Kind.{Kind}
 use Rattle.pd.specs.declared.message.Message.{Message}
-use Rattle.sender.specs.Sendings.{with_under}
+use Rattle.sender.specs.Sendings.{Sending, with_under}
 use Rattle.sender.specs.Spans.{start_span, wait_span}
 use Rattle.sender.specs.declared.sender.End.TheVariants.{Succeeded, Failed, Signalled}
-use Rattle.sender.specs.declared.sender.Sender.{Sender}
 use Rattle.sender.specs.declared.sender.State.{State}
 use Rattle.sender.specs.declared.sender.State.TheVariants.{Idle, Starting, Waiting, Signalling}
 use Rattle.sender.specs.declared.sender.life.Course.{Course}
@@ -87,12 +86,12 @@ under_after (Some (Ended end)) e under = Idle
 
 -- what a sender holds after an event, and what became of the sending
 pub record Happening : Type 0 where
-  pub after : Sender
+  pub after : Sending
   pub course : Option Course
 
 -- this is under way now, by that course; the buffer is kept
-abbrev pub moved : State → Option Course → Sender → Happening
+abbrev pub moved : State → Option Course → Sending → Happening
 moved under k s = record { after = with_under under s; course = k }
 
-abbrev pub happening : Event → Sender → Happening
+abbrev pub happening : Event → Sending → Happening
 happening e s = moved (under_after (course s.under e) e s.under) (course s.under e) s

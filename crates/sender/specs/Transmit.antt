@@ -7,11 +7,10 @@ use Rattle.pd.specs.Lengths.{shortest}
 use Rattle.transfer.specs.declared.refusal.Refusal.{Refusal}
 use Rattle.transfer.specs.declared.refusal.Refusal.TheVariants.{UnknownType, NothingToSend, SendingUnderWay}
 use Rattle.transfer.specs.Refusals.{Row, ◌when◌}
-use Rattle.sender.specs.Sendings.{is_under_way, hard_reset_under_way}
+use Rattle.sender.specs.Sendings.{Sending, is_under_way, hard_reset_under_way}
 use Rattle.sender.specs.Spans.{start_span, signalling_span}
 use Rattle.sender.specs.declared.sender.End.{End}
 use Rattle.sender.specs.declared.sender.End.TheVariants.{Discarded}
-use Rattle.sender.specs.declared.sender.Sender.{Sender}
 use Rattle.sender.specs.declared.sender.State.{State}
 use Rattle.sender.specs.declared.sender.State.TheVariants.{Idle, Starting, Signalling}
 use Rattle.sender.specs.declared.transmit.Transmit.{Transmit}
@@ -38,7 +37,7 @@ abbrev pub waits_for : ℕ → State → Bool
 waits_for type under = cond (is_hard_reset type) (hard_reset_under_way under) (is_under_way under)
 
 -- type, then bytes to send, then what is under way
-abbrev pub transmit_rows : Sender → ℕ → List Row
+abbrev pub transmit_rows : Sending → ℕ → List Row
 transmit_rows s value =
     (UnknownType when nat_eq (type_of value) 7) ∷
     (NothingToSend when is_message (type_of value) && nat_lt (length s.buffer) shortest) ∷
@@ -72,14 +71,19 @@ started_by k held buffer = cond (is_discarded k held) None (Some (accepted k buf
 abbrev pub ended_by : Kind → Bool → State → Option End
 ended_by k held under = cond (is_under_way under || is_discarded k held) (Some Discarded) None
 
+-- what a taken write puts on the line, and how a sending ended
+pub record Acceptance : Type 0 where
+  pub started : Option Message
+  pub ended : Option End
+
 -- what a sender holds after a taken write, what is put on the line, and how a sending ended
 pub record Transmitting : Type 0 where
-  pub after : Sender
+  pub after : Sending
   pub started : Option Message
   pub ended : Option End
 
 -- a type that there is not alters nothing
-abbrev pub accepting : Option Kind → ℕ → Bool → Sender → Transmitting
+abbrev pub accepting : Option Kind → ℕ → Bool → Sending → Transmitting
 accepting None retries held s = record { after = s; started = None; ended = None }
 accepting (Some k) retries held s = record {
   after = record { buffer = buffer_after k s.buffer; under = under_after k retries held s.buffer };
@@ -88,5 +92,5 @@ accepting (Some k) retries held s = record {
 }
 
 -- what a taken write of a value leads to, held back or not
-abbrev pub transmitting : ℕ → Bool → Sender → Transmitting
+abbrev pub transmitting : ℕ → Bool → Sending → Transmitting
 transmitting value held s = accepting (kind_at (type_of value)) (retries_of value) held s

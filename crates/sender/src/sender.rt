@@ -12,6 +12,7 @@ mod life;
 
 pub use life::{Course, Event};
 use pd::{Bytes, Kind, Message};
+use std::marker::Model;
 use std::{fmt, mem};
 use transfer::Refusal;
 
@@ -65,10 +66,33 @@ pub struct Accepted {
     pub ended: Option<End>,
 }
 
+// The fields as they are. It stands so that a caller may hand the value to generic code: no proof follows that for a
+// struct in which an enum holds one with a model, as `Message` does, unless it has a model itself.
+impl Model for Accepted {
+    ghost use Rattle.sender.specs.Transmit.{Acceptance};
+
+    ghost Value = { Acceptance };
+
+    ghost view = { λ a. record { started = a.started; ended = a.ended } };
+
+    ghost inverse = { λ a. record { started = a.started; ended = a.ended } };
+}
+
 #[derive(Clone, Copy)]
 pub struct Sender {
     buffer: Bytes,
     under: State,
+}
+
+// The fields as they are, for the same reason.
+impl Model for Sender {
+    ghost use Rattle.sender.specs.Sendings.{Sending};
+
+    ghost Value = { Sending };
+
+    ghost view = { λ s. record { buffer = s.buffer; under = s.under } };
+
+    ghost inverse = { λ s. record { buffer = s.buffer; under = s.under } };
 }
 
 impl Sender {

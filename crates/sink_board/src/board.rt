@@ -96,7 +96,7 @@ impl FrontEnd for SinkBoard {
         }
     }
 
-    fn line(&self) -> Option<OnLine<'_>> {
+    fn line(&self) -> Option<OnLine> {
         self.line.on_line()
     }
 }

@@ -44,12 +44,12 @@ impl<F: FrontEnd> Port<F> {
     fn obey(&mut self, effect: Option<Effect>)
         ensures { view F.meaning self.new ≡ obeyed F.CAPABILITIES effect (view F.meaning self.old) }
     {
+        self.registers.detect(effect);
         match effect {
-            Some(Effect::Detect(on)) => self.registers.detect(on),
             Some(Effect::Switch(path)) => self.front.set_path(path),
             Some(Effect::Arm) => self.receiver.arm(),
             Some(Effect::Empty) => self.sender.empty(),
-            None => {}
+            Some(Effect::Detect(_)) | None => {}
         }
     }
 
