@@ -55,7 +55,7 @@ fn emptied(mut sender: Sender) -> Sender {
     sender
 }
 
-/// A sender is handed to generic code, passed by value and kept as well.
+/// A sender, and what it accepted, are handed to generic code; a sender is passed by value and kept as well.
 #[test]
 fn a_sender_is_handed_on_and_kept(rt: HostRuntime) {
     let mut sender = Sender::new();
@@ -65,4 +65,8 @@ fn a_sender_is_handed_on_and_kept(rt: HostRuntime) {
     assert!(rt; sender.judge(0x00).is_err());
     assert!(rt; other.judge(0x00).is_err());
     assert!(rt; kept.judge(0x00).is_ok());
+    let mut last = sender.transmit(0x05, false);
+    let earlier = mem::replace(&mut last, sender.transmit(0x05, false));
+    assert!(rt; earlier.ended.is_none());
+    assert!(rt; last.ended.is_some());
 }
