@@ -1,6 +1,6 @@
 -- What a front end stands for, and how each order alters it. Assumes nothing.
 use Rattle.std.specs.Prelude.{Bool, true, false, cond, ◌≡◌, ℕ, ◌+◌, min, Some, None, Option}
-use Rattle.pd.specs.declared.message.Message.{Message}
+use Rattle.pd.specs.Messages.{Content, content}
 use Rattle.front_end.specs.Starts.{most_starts}
 use Rattle.front_end.specs.declared.line.OnLine.{OnLine}
 use Rattle.front_end.specs.declared.parts.Capabilities.{Capabilities}
@@ -15,7 +15,7 @@ use Rattle.front_end.specs.declared.parts.Vconn.TheVariants as vconn
 -- what is on the line: nothing, or a sending with its number of starts
 pub data Carried : Type 0 where
   idle : Carried
-  sending : Message → ℕ → Carried
+  sending : Content → ℕ → Carried
 
 pub record Meaning : Type 0 where
   pub terminations : Terminations
@@ -62,18 +62,18 @@ sourcing path.DefaultSource = true
 sourcing path.NondefaultSource = true
 
 -- a sending that was started once
-abbrev pub started : Message → Carried
-started m = sending m 1
+abbrev pub started : Content → Carried
+started c = sending c 1
 
 -- one start more, up to the most; nothing on an idle line
 abbrev pub again_line : Carried → Carried
 again_line idle = idle
-again_line (sending m starts) = sending m (min most_starts (starts + 1))
+again_line (sending c starts) = sending c (min most_starts (starts + 1))
 
 -- what an answer says of the line
 abbrev pub on_line : Option OnLine → Carried
 on_line None = idle
-on_line (Some l) = sending l.message l.starts
+on_line (Some l) = sending (content l.message) l.starts
 
 -- each part anew, the others kept
 abbrev pub with_terminations : Terminations → Meaning → Meaning

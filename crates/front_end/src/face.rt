@@ -1,6 +1,7 @@
 //! The trait of every front end: its capabilities, its meaning in four parts, and what alters each part.
 //! Each order alters its own part alone; no order is refused, and a question alters nothing.
 ghost use Rattle.std.specs.Prelude.{◌≡◌};
+ghost use Rattle.pd.specs.Messages.{content};
 ghost use Rattle.front_end.specs.Meaning.{Meaning, Graded, idle, started, again_line, on_line};
 ghost use Rattle.front_end.specs.Meaning.{with_terminations, with_vconn, with_path, with_line};
 ghost use Rattle.front_end.specs.declared.parts.Capabilities.{Capabilities};
@@ -30,7 +31,7 @@ pub trait FrontEnd {
 
     /// The sending is on the line with one start, in place of what was there.
     fn send(&mut self, message: &Message)
-        ensures { meaning self.new ≡ with_line (started message.now) (meaning self.old) };
+        ensures { meaning self.new ≡ with_line (started (content message.now)) (meaning self.old) };
 
     /// One start more, up to four; nothing on an idle line.
     fn again(&mut self)

@@ -1,11 +1,12 @@
 //! The line of a board: what is on it, and how often that was started.
 //! One line for every board, whatever the board counts: starts made, starts left.
 ghost use Rattle.std.specs.Prelude.{◌≡◌, ℕ, ◌+◌, min};
+ghost use Rattle.pd.specs.Messages.{content};
 ghost use Rattle.front_end.specs.Meaning.{idle, started, again_line, on_line};
 ghost use Rattle.front_end.specs.Lines.{carried};
 ghost use Rattle.front_end.specs.Starts.{most_starts};
 
-use pd::{Kind, Message};
+use pd::Message;
 
 /// The most starts of a sending: one and three retries.
 pub const MOST_STARTS: u8 = 4;
@@ -33,38 +34,30 @@ pub trait Starts: Copy {
         ensures { result ≡ made self };
 }
 
-/// What a board keeps of its line. The message stands beside the `Option` and not in it, since no proof follows a board
-/// by value into code that is generic over front ends where an enum in the board holds a message.
+/// What a board keeps of its line.
 #[derive(Drop)]
 pub struct BoardLine<S: Starts> {
-    /// The sending on the line, or the last that was.
-    message: Message,
-    /// None on an idle line.
-    starts: Option<S>,
+    sending: Option<(Message, S)>,
 }
 
 impl<S: Starts> BoardLine<S> {
     pub fn new() -> BoardLine<S>
         ensures { carried S.made result ≡ idle }
     {
-        BoardLine {
-            message: Message::without_bytes(Kind::Sop),
-            starts: None,
-        }
+        BoardLine { sending: None }
     }
 
     /// In place of what was there.
     pub fn send(&mut self, message: &Message)
-        ensures { carried S.made self.new ≡ started message.now }
+        ensures { carried S.made self.new ≡ started (content message.now) }
     {
-        self.message = *message;
-        self.starts = Some(S::first());
+        self.sending = Some((*message, S::first()));
     }
 
     pub fn again(&mut self)
         ensures { carried S.made self.new ≡ again_line (carried S.made self.old) }
     {
-        if let Some(starts) = &mut self.starts {
+        if let Some((_, starts)) = &mut self.sending {
             *starts = starts.again();
         }
     }
@@ -72,16 +65,16 @@ impl<S: Starts> BoardLine<S> {
     pub fn quiet(&mut self)
         ensures { carried S.made self.new ≡ idle }
     {
-        self.starts = None;
+        self.sending = None;
     }
 
     /// What is on the line, copied.
     pub fn on_line(&self) -> Option<OnLine>
         ensures { on_line result ≡ carried S.made self.now }
     {
-        let starts = self.starts?;
+        let (message, starts) = self.sending?;
         Some(OnLine {
-            message: self.message,
+            message,
             starts: starts.made(),
         })
     }

@@ -1,7 +1,7 @@
 -- What the ledger has kept and told over a run: the calls since power on, the newest first. Assumes nothing.
 use Rattle.std.specs.Prelude.{◌≡◌, List, [], ◌∷◌, ◌++◌, Option}
 use Rattle.front_end.specs.declared.parts.Capabilities.{Capabilities}
-use Rattle.pd.specs.declared.message.Message.{Message}
+use Rattle.pd.specs.Messages.{Content}
 use Rattle.ledger.specs.Calls.{Call}
 use Rattle.ledger.specs.Kept.{Ledger, power_on}
 use Rattle.ledger.specs.Ledger.{Verdict, Told, Gone, Ended, enter}
@@ -19,7 +19,7 @@ abbrev pub told : Capabilities → List Call → Call → Told
 told has past c = (enter has (after has past) c).told
 
 -- all that it has told, oldest first: the frames acknowledged and gone, the sendings accepted and ended
-abbrev pub acknowledged : Capabilities → List Call → List Message
+abbrev pub acknowledged : Capabilities → List Call → List Content
 acknowledged has [] = []
 acknowledged has (c ∷ past) = acknowledged has past ++ (told has past c).acks
 
@@ -27,7 +27,7 @@ abbrev pub gone : Capabilities → List Call → List Gone
 gone has [] = []
 gone has (c ∷ past) = gone has past ++ (told has past c).goes
 
-abbrev pub accepted : Capabilities → List Call → List Message
+abbrev pub accepted : Capabilities → List Call → List Content
 accepted has [] = []
 accepted has (c ∷ past) = accepted has past ++ (told has past c).accepts
 
@@ -35,10 +35,10 @@ abbrev pub ended : Capabilities → List Call → List Ended
 ended has [] = []
 ended has (c ∷ past) = ended has past ++ (told has past c).ends
 
-abbrev pub frame_of : Gone → Message
+abbrev pub frame_of : Gone → Content
 frame_of g = g.frame
 
-abbrev pub sending_of : Ended → Message
+abbrev pub sending_of : Ended → Content
 sending_of e = e.sending
 
 -- no call of `later`, made after `before`, ended a sending

@@ -2,14 +2,14 @@
 use Rattle.std.specs.Prelude.{ℕ, Bool, false, List, []}
 use Rattle.front_end.specs.declared.parts.Path.{Path}
 use Rattle.front_end.specs.declared.parts.Path.TheVariants as path
-use Rattle.pd.specs.declared.message.Message.{Message}
+use Rattle.pd.specs.Messages.{Content}
 
 -- the sending under way: a message in a start or in its ten Ticks, with its retries left, its starts and the Ticks left of
 -- its span; or a reset being signalled, with the Ticks left
 pub data Under : Type 0 where
   none : Under
-  starting waiting : Message → ℕ → ℕ → ℕ → Under
-  signalling : Message → ℕ → Under
+  starting waiting : Content → ℕ → ℕ → ℕ → Under
+  signalling : Content → ℕ → Under
 
 -- RECEIVE_DETECT, MESSAGE_HEADER_INFO, RxOneMore, ALERT bits 2 and 3, transmit buffer, path, the waiting frames, oldest
 -- first, and the sending under way
@@ -21,7 +21,7 @@ pub record Ledger : Type 0 where
   pub reset_alert : Bool
   pub buffer : List ℕ
   pub path : Path
-  pub frames : List Message
+  pub frames : List Content
   pub under : Under
 
 abbrev pub power_on : Ledger
@@ -59,7 +59,7 @@ with_buffer x l = record l { buffer = x }
 abbrev pub with_path : Path → Ledger → Ledger
 with_path x l = record l { path = x }
 
-abbrev pub with_frames : List Message → Ledger → Ledger
+abbrev pub with_frames : List Content → Ledger → Ledger
 with_frames x l = record l { frames = x }
 
 abbrev pub with_under : Under → Ledger → Ledger

@@ -2,8 +2,7 @@
 use Rattle.std.specs.Prelude.{◌≡◌, ℕ, zero, suc, ◌+◌, ◌/◌, ◌%◌, ◌<◌, ◌≤◌, Bool, true, false, cond, not, ◌||◌, ◌⊎◌, List, [], ◌∷◌, ◌++◌, map, length, Some, ◌==◌, ◌≢◌}
 use Rattle.front_end.specs.declared.parts.Capabilities.{Capabilities}
 use Rattle.pd.specs.Headers.{is_good_crc}
-use Rattle.pd.specs.Messages.{header, arrived, well_formed}
-use Rattle.pd.specs.declared.message.Message.{Message}
+use Rattle.pd.specs.Messages.{Content, header, arrived, well_formed}
 use Rattle.sender.specs.declared.sender.End.{End}
 use Rattle.sender.specs.declared.sender.End.TheVariants.{Succeeded, Failed, Discarded, Signalled}
 use Rattle.ledger.specs.Calls.{Call, wrote, read, levels, vbus, fault, frame, reset_heard, line_finished, tick, ticks}
@@ -83,11 +82,11 @@ EndsInTime = (has : Capabilities) (past later before : List Call) (c : Call) →
     1 ≤ length (told has before c).accepts → 116 ≤ ticks later → length (accepted has before) < length (ended has past)
 
 -- one sending ended, so
-abbrev pub ended_so : End → Message → List Ended
+abbrev pub ended_so : End → Content → List Ended
 ended_so e s = record { end = e; sending = s } ∷ []
 
 -- this sending is under way
-abbrev pub UnderWay : Capabilities → List Call → Message → Type 0
+abbrev pub UnderWay : Capabilities → List Call → Content → Type 0
 UnderWay has past s = carried (after has past).under ≡ s ∷ []
 
 -- ---- success
@@ -102,14 +101,14 @@ pub record InTen (has : Capabilities) (past : List Call) : Type 0 where
   pub soon : ticks later < 10
 
 -- a well-formed GoodCRC of the sending's type and MessageID
-pub record GoodCrcOf (number : ℕ) (bytes : List ℕ) (s : Message) : Type 0 where
-  pub given : Message
+pub record GoodCrcOf (number : ℕ) (bytes : List ℕ) (s : Content) : Type 0 where
+  pub given : Content
   pub in_range : arrived number bytes ≡ Some given
   pub well : well_formed given ≡ true
   pub good : is_good_crc (header given.bytes) ≡ true
   pub same : matches given s ≡ true
 
-abbrev pub Matches : Call → Message → Type 0
+abbrev pub Matches : Call → Content → Type 0
 Matches (wrote t) s = ⊥
 Matches (read a wanted room) s = ⊥
 Matches (levels cc1 cc2) s = ⊥
@@ -121,7 +120,7 @@ Matches line_finished s = ⊥
 Matches tick s = ⊥
 
 abbrev pub SucceedsExactlyWhen : Type 0
-SucceedsExactlyWhen = (has : Capabilities) (past : List Call) (c : Call) (s : Message) →
+SucceedsExactlyWhen = (has : Capabilities) (past : List Call) (c : Call) (s : Content) →
     ((told has past c).ends ≡ ended_so Succeeded s → UnderWay has past s × Matches c s × InTen has past) ×
     (UnderWay has past s → Matches c s → InTen has past → (told has past c).ends ≡ ended_so Succeeded s)
 
@@ -157,7 +156,7 @@ RunOut has (suc k) run before =
     (RunsOutInStart has last (earlier ++ before) ⊎ RunsOutInWait has last (earlier ++ before)) × RunOut has k earlier before
 
 -- the call that accepted the sending under way, and no end since
-pub record Accepted (has : Capabilities) (past : List Call) (s : Message) : Type 0 where
+pub record Accepted (has : Capabilities) (past : List Call) (s : Content) : Type 0 where
   pub later : List Call
   pub before : List Call
   pub by : Call
@@ -179,24 +178,24 @@ retries_of line_finished = 0
 retries_of tick = 0
 
 -- with this Tick each start that is allowed has run out
-pub record Exhausted (has : Capabilities) (past : List Call) (s : Message) : Type 0 where
+pub record Exhausted (has : Capabilities) (past : List Call) (s : Content) : Type 0 where
   pub since : Accepted has past s
   pub ran_out : RunOut has (1 + retries_of since.by) (tick ∷ since.later) (since.by ∷ since.before)
 
 -- a message fails at the Tick with which its last allowed start runs out
 abbrev pub MessageFailsExactlyWhen : Type 0
-MessageFailsExactlyWhen = (has : Capabilities) (past : List Call) (c : Call) (s : Message) → is_message s.kind ≡ true →
+MessageFailsExactlyWhen = (has : Capabilities) (past : List Call) (c : Call) (s : Content) → is_message s.kind ≡ true →
     ((told has past c).ends ≡ ended_so Failed s → (c ≡ tick) × UnderWay has past s × Exhausted has past s) ×
     (c ≡ tick → UnderWay has past s → Exhausted has past s → (told has past c).ends ≡ ended_so Failed s)
 
 -- 49 Ticks came since it was accepted, so that this is the 50th
-pub record TimedOut (has : Capabilities) (past : List Call) (s : Message) : Type 0 where
+pub record TimedOut (has : Capabilities) (past : List Call) (s : Content) : Type 0 where
   pub since : Accepted has past s
   pub passed : ticks since.later ≡ 49
 
 -- a reset fails at the 50th Tick after its acceptance
 abbrev pub ResetFailsExactlyWhen : Type 0
-ResetFailsExactlyWhen = (has : Capabilities) (past : List Call) (c : Call) (s : Message) → is_message s.kind ≡ false →
+ResetFailsExactlyWhen = (has : Capabilities) (past : List Call) (c : Call) (s : Content) → is_message s.kind ≡ false →
     ((told has past c).ends ≡ ended_so Failed s → (c ≡ tick) × UnderWay has past s × TimedOut has past s) ×
     (c ≡ tick → UnderWay has past s → TimedOut has past s → (told has past c).ends ≡ ended_so Failed s)
 
@@ -204,13 +203,13 @@ ResetFailsExactlyWhen = (has : Capabilities) (past : List Call) (c : Call) (s : 
 
 -- a reset is signalled by Line Finished
 abbrev pub SignalledExactlyWhen : Type 0
-SignalledExactlyWhen = (has : Capabilities) (past : List Call) (c : Call) (s : Message) →
+SignalledExactlyWhen = (has : Capabilities) (past : List Call) (c : Call) (s : Content) →
     ((told has past c).ends ≡ ended_so Signalled s → (c ≡ line_finished) × UnderWay has past s × (is_message s.kind ≡ false)) ×
     (c ≡ line_finished → UnderWay has past s → is_message s.kind ≡ false → (told has past c).ends ≡ ended_so Signalled s)
 
 -- a Hard Reset is accepted
 abbrev pub HardResetAccepted : Capabilities → List Call → Call → Type 0
-HardResetAccepted has past c = (x : Message) × ((told has past c).accepts ≡ x ∷ []) × (is_hard_reset x.kind ≡ true)
+HardResetAccepted has past c = (x : Content) × ((told has past c).accepts ≡ x ∷ []) × (is_hard_reset x.kind ≡ true)
 
 -- a Hard Reset is heard
 abbrev pub HardResetHeard : Capabilities → List Call → Call → Type 0
@@ -218,22 +217,22 @@ HardResetHeard has past c = (c ≡ reset_heard) × (verdict has past c ≡ Some 
 
 -- a frame is acknowledged
 abbrev pub FrameAcknowledged : Capabilities → List Call → Call → Type 0
-FrameAcknowledged has past c = (x : Message) × ((told has past c).acks ≡ x ∷ [])
+FrameAcknowledged has past c = (x : Content) × ((told has past c).acks ≡ x ∷ [])
 
 -- accepted while ALERT bit 2 or 3 is 1, and no Hard Reset
-pub record AcceptedWhileAlerted (has : Capabilities) (past : List Call) (c : Call) (s : Message) : Type 0 where
+pub record AcceptedWhileAlerted (has : Capabilities) (past : List Call) (c : Call) (s : Content) : Type 0 where
   pub accepts : (told has past c).accepts ≡ s ∷ []
   pub other : is_hard_reset s.kind ≡ false
   pub alerted : ((after has past).frame_alert || (after has past).reset_alert) ≡ true
 
 -- a sending is discarded in the write that accepts it, or, under way, by a Hard Reset sent or heard or by a frame
-abbrev pub Discards : Capabilities → List Call → Call → Message → Type 0
+abbrev pub Discards : Capabilities → List Call → Call → Content → Type 0
 Discards has past c s =
     AcceptedWhileAlerted has past c s
     ⊎ (UnderWay has past s × (HardResetAccepted has past c ⊎ (HardResetHeard has past c ⊎ FrameAcknowledged has past c)))
 
 abbrev pub DiscardedExactlyWhen : Type 0
-DiscardedExactlyWhen = (has : Capabilities) (past : List Call) (c : Call) (s : Message) →
+DiscardedExactlyWhen = (has : Capabilities) (past : List Call) (c : Call) (s : Content) →
     ((told has past c).ends ≡ ended_so Discarded s → Discards has past c s) × (Discards has past c s → (told has past c).ends ≡ ended_so Discarded s)
 
 -- ---- starts
@@ -261,7 +260,7 @@ pub record RunningWait (has : Capabilities) (run before : List Call) : Type 0 wh
   pub soon : ticks late < 10
 
 -- since the acceptance so many starts have run out, and the present one has not
-pub record Restarted (has : Capabilities) (past : List Call) (s : Message) (k : ℕ) : Type 0 where
+pub record Restarted (has : Capabilities) (past : List Call) (s : Content) (k : ℕ) : Type 0 where
   pub since : Accepted has past s
   pub run : List Call
   pub earlier : List Call
@@ -271,5 +270,5 @@ pub record Restarted (has : Capabilities) (past : List Call) (s : Message) (k : 
 
 -- a message under way has one start and one more for each that ran out; a reset has one
 abbrev pub StartsAreCounted : Type 0
-StartsAreCounted = (has : Capabilities) (past : List Call) (s : Message) → UnderWay has past s → is_message s.kind ≡ true →
+StartsAreCounted = (has : Capabilities) (past : List Call) (s : Content) → UnderWay has past s → is_message s.kind ≡ true →
     (k : ℕ) × (starts_of (after has past).under ≡ 1 + k) × Restarted has past s k

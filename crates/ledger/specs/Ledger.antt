@@ -5,8 +5,7 @@ use Rattle.front_end.specs.declared.parts.Path.{Path}
 use Rattle.front_end.specs.declared.parts.Path.TheVariants as path
 use Rattle.pd.specs.Headers.{message_id, is_good_crc, good_crc}
 use Rattle.pd.specs.Kinds.{number_of, kind_at}
-use Rattle.pd.specs.Messages.{header, arrived}
-use Rattle.pd.specs.declared.message.Message.{Message}
+use Rattle.pd.specs.Messages.{Content, header, arrived}
 use Rattle.pd.specs.declared.header.Header.{Header}
 use Rattle.pd.specs.declared.kind.Kind.{Kind}
 use Rattle.sender.specs.declared.sender.End.{End}
@@ -27,18 +26,18 @@ pub data Fate : Type 0 where
 -- a frame that is gone, with its fate
 pub record Gone : Type 0 where
   pub fate : Fate
-  pub frame : Message
+  pub frame : Content
 
 -- a sending that ended, with its end
 pub record Ended : Type 0 where
   pub end : End
-  pub sending : Message
+  pub sending : Content
 
 -- the sendings accepted and ended in a call, the frames acknowledged and gone in it, and the GoodCRC given
 pub record Told : Type 0 where
-  pub accepts : List Message
+  pub accepts : List Content
   pub ends : List Ended
-  pub acks : List Message
+  pub acks : List Content
   pub gives : Option Header
   pub goes : List Gone
 
@@ -80,17 +79,17 @@ judged [] e l = e
 judged (r ∷ rs) e l = cond r.holds (stays (refused r.number) l) (judged rs e l)
 
 -- the sending under way, if any
-abbrev pub carried : Under → List Message
+abbrev pub carried : Under → List Content
 carried none = []
 carried (starting s retries starts left) = s ∷ []
 carried (waiting s retries starts left) = s ∷ []
 carried (signalling s left) = s ∷ []
 
-abbrev pub ended_as : End → List Message → List Ended
+abbrev pub ended_as : End → List Content → List Ended
 ended_as e [] = []
 ended_as e (s ∷ ss) = record { end = e; sending = s } ∷ ended_as e ss
 
-abbrev pub gone_as : Fate → List Message → List Gone
+abbrev pub gone_as : Fate → List Content → List Gone
 gone_as f [] = []
 gone_as f (x ∷ xs) = record { fate = f; frame = x } ∷ gone_as f xs
 
@@ -156,7 +155,7 @@ abbrev pub reset : Ledger → Ledger
 reset l = with_frames [] (with_frame_alert false (with_detect 0x00 (with_armed false l)))
 
 -- what is accepted: a message has the buffered bytes, a reset none
-abbrev pub sent : Kind → Ledger → Message
+abbrev pub sent : Kind → Ledger → Content
 sent k l = record { kind = k; bytes = cond (is_message k) l.buffer [] }
 
 -- a message empties the transmit buffer
@@ -164,7 +163,7 @@ abbrev pub after_sent : Kind → Ledger → Ledger
 after_sent k l = with_buffer (cond (is_message k) [] l.buffer) l
 
 -- a message has 20 Ticks in its first start, a reset 50 to be signalled
-abbrev pub begun : Message → ℕ → Under
+abbrev pub begun : Content → ℕ → Under
 begun s retries = cond (is_message s.kind) (starting s retries 1 20) (signalling s 50)
 
 -- a Hard Reset discards what is under way and drops the waiting frames
@@ -266,17 +265,17 @@ writes has t l =
 -- ---- the rules of frames
 
 -- a GoodCRC of a message's type and MessageID
-abbrev pub matches : Message → Message → Bool
+abbrev pub matches : Content → Content → Bool
 matches c s = number_of c.kind == number_of s.kind && message_id (header c.bytes) == message_id (header s.bytes)
 
-abbrev pub good_crc_heard : Message → Under → Ledger → Entry
+abbrev pub good_crc_heard : Content → Under → Ledger → Entry
 good_crc_heard c none l = stays ignored l
 good_crc_heard c (starting s retries starts left) l = stays ignored l
 good_crc_heard c (waiting s retries starts left) l = cond (matches c s) (ends_as Succeeded l) (stays ignored l)
 good_crc_heard c (signalling s left) l = stays ignored l
 
 -- an acknowledged frame waits, newest last, and discards a message under way; RxOneMore, if armed, is spent
-abbrev pub acknowledges : Message → Ledger → Entry
+abbrev pub acknowledges : Content → Ledger → Entry
 acknowledges c l = record {
   verdict = Some taken;
   told = record nothing { ends = ended_as Discarded (carried l.under); acks = c ∷ []; gives = Some (good_crc l.info c.kind (header c.bytes)) };
@@ -284,14 +283,14 @@ acknowledges c l = record {
 }
 
 -- a frame is enabled if the RECEIVE_DETECT bit with the number of its type is 1
-abbrev pub enabled : Message → Ledger → Bool
+abbrev pub enabled : Content → Ledger → Bool
 enabled c l = has_bit (number_of c.kind) l.detect
 
-abbrev pub message_heard : Message → Ledger → Entry
+abbrev pub message_heard : Content → Ledger → Entry
 message_heard c l =
     cond (not (enabled c l) || resetting l.under || not (nat_lt (length l.frames) most_waiting)) (stays ignored l) (acknowledges c l)
 
-abbrev pub frame_heard : Option Message → Ledger → Entry
+abbrev pub frame_heard : Option Content → Ledger → Entry
 frame_heard None l = stays (refused 14) l
 frame_heard (Some c) l = cond (is_good_crc (header c.bytes)) (good_crc_heard c l.under l) (message_heard c l)
 
@@ -318,7 +317,7 @@ faults n l =
     judged ((14 when not (n == 1 || n == 2 || n == 3 || n == 6)) ∷ []) (becomes (with_path (cond (n == 1) l.path path.Off) l)) l
 
 -- a span's last Tick: again while retries are left, else failed
-abbrev pub runs_out : Message → ℕ → ℕ → Ledger → Entry
+abbrev pub runs_out : Content → ℕ → ℕ → Ledger → Entry
 runs_out s retries starts l = cond (retries == 0) (ends_as Failed l) (becomes (with_under (starting s (retries - 1) (starts + 1) 20) l))
 
 abbrev pub ticks_on : Under → Ledger → Entry

@@ -1,11 +1,11 @@
 //! The bytes of a message: at most thirty, in the value itself.
-//! A contract sees them as a list; the room behind them is zero, so that equal lists are equal values.
+//! A contract reads them as a list; the room behind them is zero, so that equal lists are equal values.
 ghost use Rattle.std.specs.Prelude.{◌≡◌, ◌+◌, ◌≤◌, ◌↔◌, [], ◌++◌, length, IsOk, OnOk, OnErr, nat_le};
 ghost use Rattle.pd.specs.Lengths.{longest};
+ghost use Rattle.pd.specs.Room.{HasRoom};
 
 use std::error::Error;
 use std::fmt;
-use std::marker::Model;
 
 /// The most bytes that a message has, its two header bytes among them.
 pub const LONGEST: usize = 30;
@@ -17,31 +17,18 @@ pub const SHORTEST: usize = 2;
 pub struct Bytes {
     len: usize,
     room: [u8; LONGEST],
+    ghost laid_out: { HasRoom longest 0 len room },
 }
 
 /// More bytes than a message has.
 #[derive(Clone, Copy, Debug, PartialEq, Eq)]
 pub struct TooLong;
 
-impl Model for Bytes {
-    ghost use Rattle.std.specs.Prelude.{ℕ, List, take};
-
-    ghost Value = { List ℕ };
-
-    ghost use Rattle.pd.specs.Room.{HasRoom, in_room, same_len, same_room};
-
-    ghost view = { λ b. take b.len b.room };
-
-    ghost invariant = { λ b. HasRoom b.len b.room };
-
-    ghost inverse = { in_room };
-
-    ghost inverse_ok = { λ b h i. record { len = same_len b.len b.room h i; room = same_room b.len b.room h i } };
-}
-
 impl Bytes {
+    ghost use Rattle.pd.specs.Held.{held};
+
     pub fn new() -> Bytes
-        ensures { result ≡ [] }
+        ensures { held result ≡ [] }
     {
         Bytes {
             len: 0,
@@ -50,30 +37,30 @@ impl Bytes {
     }
 
     pub fn len(&self) -> usize
-        ensures held { result ≡ length self.now }
+        ensures held { result ≡ length (held self.now) }
         ensures most { result ≤ longest }
     {
         self.len
     }
 
     pub fn as_slice(&self) -> &[u8]
-        ensures held { result.now ≡ self.now }
-        ensures most { length self.now ≤ longest }
+        ensures held { result.now ≡ held self.now }
+        ensures most { length (held self.now) ≤ longest }
     {
         &self.room[..self.len]
     }
 
     pub fn has_room_for(&self, more: usize) -> bool
-        ensures told { result ≡ nat_le (length self.now + more) longest }
-        ensures most { length self.now ≤ longest }
+        ensures told { result ≡ nat_le (length (held self.now) + more) longest }
+        ensures most { length (held self.now) ≤ longest }
     {
         more <= LONGEST - self.len
     }
 
     /// Appends all of `more`, or nothing where they are too many.
     pub fn append(&mut self, more: &[u8]) -> Result<(), TooLong>
-        ensures when { IsOk result ↔ (length self.old + length more.now ≤ longest) }
-        ensures ok { OnOk result (self.new ≡ self.old ++ more.now) }
+        ensures when { IsOk result ↔ (length (held self.old) + length more.now ≤ longest) }
+        ensures ok { OnOk result (held self.new ≡ held self.old ++ more.now) }
         ensures err { OnErr result (self.new ≡ self.old) }
     {
         if !self.has_room_for(more.len()) {

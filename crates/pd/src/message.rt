@@ -3,7 +3,7 @@
 ghost use Rattle.std.specs.Prelude.{◌≡◌, ◌≤◌, length};
 ghost use Rattle.pd.specs.Lengths.{longest};
 ghost use Rattle.pd.specs.Kinds.{number_of};
-ghost use Rattle.pd.specs.Messages.{empty, of_kind, arrived, in_range, well_formed, header};
+ghost use Rattle.pd.specs.Messages.{content, contents, empty, of_kind, arrived, in_range, well_formed, header};
 
 use crate::bytes::{Bytes, LONGEST, SHORTEST};
 use crate::header::Header;
@@ -25,7 +25,7 @@ fn is_in_range(kind: Kind, bytes: &[u8]) -> bool
 impl Message {
     /// Of these bytes, if there are at most thirty.
     pub fn new(kind: Kind, bytes: &[u8]) -> Option<Message>
-        ensures { result ≡ of_kind kind bytes.now }
+        ensures { contents result ≡ of_kind kind bytes.now }
     {
         let mut held = Bytes::new();
         held.append(bytes).ok()?;
@@ -41,14 +41,14 @@ impl Message {
 
     /// A signal, or a message that has no bytes yet.
     pub fn without_bytes(kind: Kind) -> Message
-        ensures { result ≡ empty kind }
+        ensures { content result ≡ empty kind }
     {
         Message::holding(kind, Bytes::new())
     }
 
     /// The frame that arrived, if it is in range.
     pub fn arrived(number: u8, bytes: &[u8]) -> Option<Message>
-        ensures { result ≡ arrived number bytes.now }
+        ensures { contents result ≡ arrived number bytes.now }
     {
         let kind = Kind::try_from(number).ok()?;
         if !is_in_range(kind, bytes) {
@@ -58,21 +58,21 @@ impl Message {
     }
 
     pub fn kind(&self) -> Kind
-        ensures { result ≡ self.now.kind }
+        ensures { result ≡ (content self.now).kind }
     {
         self.kind
     }
 
     pub fn bytes(&self) -> &[u8]
-        ensures held { result.now ≡ self.now.bytes }
-        ensures most { length self.now.bytes ≤ longest }
+        ensures held { result.now ≡ (content self.now).bytes }
+        ensures most { length (content self.now).bytes ≤ longest }
     {
         self.bytes.as_slice()
     }
 
     /// Its first two bytes, 0 where it has fewer.
     pub fn header(&self) -> Header
-        ensures { result ≡ header self.now.bytes }
+        ensures { result ≡ header (content self.now).bytes }
     {
         match self.bytes() {
             [] => Header { low: 0, high: 0 },
@@ -86,7 +86,7 @@ impl Message {
 
     /// Whether this is a frame that a port may take for one.
     pub fn is_well_formed(&self) -> bool
-        ensures { result ≡ well_formed self.now }
+        ensures { result ≡ well_formed (content self.now) }
     {
         is_in_range(self.kind, self.bytes())
     }

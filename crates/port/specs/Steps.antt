@@ -6,7 +6,7 @@ use Rattle.front_end.specs.declared.parts.Capabilities.{Capabilities}
 use Rattle.front_end.specs.declared.parts.Path.TheVariants as path
 use Rattle.front_end.specs.declared.parts.Vconn.TheVariants as vconn
 use Rattle.pd.specs.Kinds.{is_hard_reset}
-use Rattle.pd.specs.declared.message.Message.{Message}
+use Rattle.pd.specs.Messages.{Content}
 use Rattle.receiver.specs.Receiving.{with_armed, after_hard_reset}
 use Rattle.registers.specs.Alerts.{unmarked, settled, holds_back}
 use Rattle.registers.specs.File.{with_alert}
@@ -63,7 +63,7 @@ abbrev pub reset_by : ℕ → View → View
 reset_by value v =
     cond (is_hard_reset (type_of value)) (with_receiving (after_hard_reset v.receiving) (with_registers (unmarked 4 v.registers) v)) v
 
-abbrev pub on_line_after : Option Message → View → View
+abbrev pub on_line_after : Option Content → View → View
 on_line_after started v = with_meaning (with_line (line_after started v.meaning.line) v.meaning) v
 
 -- an end that a write tells is a discard

@@ -7,7 +7,7 @@ use Rattle.front_end.specs.declared.parts.Path.{Path}
 use Rattle.front_end.specs.declared.parts.Vconn.{Vconn}
 use Rattle.pd.specs.Lengths.{shortest, longest}
 use Rattle.pd.specs.Kinds.{is_message, is_hard_reset}
-use Rattle.pd.specs.declared.message.Message.{Message}
+use Rattle.pd.specs.Messages.{Content}
 use Rattle.registers.specs.Alerts.{holds_back}
 use Rattle.registers.specs.Bits.{any_of, word_without}
 use Rattle.registers.specs.Commands.{commands, among, unmet, switches}
@@ -69,7 +69,7 @@ abbrev pub transmission : Asked → Bool → Sending → Transmitting
 transmission w held s = cond (byte_at 0x50 w) (transmitting (value w) held s) (record { after = appended w s; started = None; ended = None })
 
 -- the waiting frames: less the oldest if released, none after a Hard Reset
-abbrev pub frames_after : Asked → List Message → List Message
+abbrev pub frames_after : Asked → List Content → List Content
 frames_after w frames = cond (releases w) (drop 1 frames) (cond (hard_resets w) [] frames)
 
 -- ALERT bit 5 where a sending was discarded
@@ -78,12 +78,12 @@ with_discard None alert = alert
 with_discard (Some e) alert = bit_or alert 0x20
 
 -- ALERT, of what stands when its ones written are cleared: bit 2 stands again if a frame still waits, and falls by a Hard Reset
-abbrev pub alert_after : Asked → Option End → List Message → ℕ → ℕ
+abbrev pub alert_after : Asked → Option End → List Content → ℕ → ℕ
 alert_after w ended frames alert =
     with_discard ended (cond (hard_resets w) (word_without 4 alert) (cond (releases w && not (length (drop 1 frames) == 0)) (bit_or alert 4) alert))
 
 -- what is on the line
-abbrev pub line_after : Option Message → Carried → Carried
+abbrev pub line_after : Option Content → Carried → Carried
 line_after None line = line
 line_after (Some m) line = started m
 

@@ -3,3 +3,4 @@ pub mod Slots
 pub mod Waiting
 pub mod Texts
 pub mod Receiving
+pub mod Same

@@ -1,13 +1,13 @@
 //! The frames that wait, oldest first, at most as many as the capacity; a full queue keeps what it has.
-//! Knows of no register. A contract sees a list; the slots behind it are blank, so that equal lists are equal values.
-ghost use Rattle.std.specs.Prelude.{◌≡◌, ◌≤◌, [], length, drop, is_ok};
-ghost use Rattle.receiver.specs.Waiting.{has_room, with_last};
+//! Knows of no register. A contract reads a list; the slots behind it are blank, so that equal lists are equal values.
+ghost use Rattle.std.specs.Prelude.{◌≡◌, ◌≤◌, [], map, length, drop, is_ok};
+ghost use Rattle.pd.specs.Room.{HasRoom};
 ghost use Rattle.receiver.specs.Capacity.{capacity};
+ghost use Rattle.receiver.specs.Slots.{blank};
 
 use pd::{Kind, Message};
 use std::error::Error;
 use std::fmt;
-use std::marker::Model;
 
 /// The most frames that wait. They lie in the value itself, since nothing here may allocate.
 const CAPACITY: usize = 2;
@@ -16,33 +16,19 @@ const CAPACITY: usize = 2;
 pub(crate) struct Queue {
     count: usize,
     slots: [Message; CAPACITY],
+    ghost laid_out: { HasRoom capacity blank count slots },
 }
 
 /// As many frames wait as can.
 #[derive(Clone, Copy, Debug, PartialEq, Eq)]
 pub struct QueueFull;
 
-impl Model for Queue {
-    ghost use Rattle.std.specs.Prelude.{List, take};
-    ghost use Rattle.pd.specs.declared.message.Message.{Message};
-
-    ghost Value = { List Message };
-
-    ghost use Rattle.receiver.specs.Slots.{waiting, IsLaidOut, in_slots};
-
-    ghost view = { waiting };
-
-    ghost invariant = { IsLaidOut };
-
-    ghost inverse = { in_slots };
-
-    ghost inverse_ok = { λ q h. h.laid_out };
-}
-
 impl Queue {
-    ghost use Rattle.receiver.specs.Slots.{blank};
+    ghost use Rattle.pd.specs.Messages.{content};
+    ghost use Rattle.receiver.specs.Waiting.{queued, has_room, with_last};
 
     /// What stands in a slot where no frame waits.
+    #[tactic(auto, using(pd::specs::Messages::same_message, crate::specs::Slots::blank_is_empty))]
     fn blank() -> Message
         ensures { result ≡ blank }
     {
@@ -50,7 +36,7 @@ impl Queue {
     }
 
     pub(crate) fn new() -> Queue
-        ensures { result ≡ [] }
+        ensures { queued result ≡ [] }
     {
         Queue {
             count: 0,
@@ -59,16 +45,16 @@ impl Queue {
     }
 
     pub(crate) fn as_slice(&self) -> &[Message]
-        ensures held { result.now ≡ self.now }
-        ensures most { length self.now ≤ capacity }
+        ensures held { map content result.now ≡ queued self.now }
+        ensures most { length (queued self.now) ≤ capacity }
     {
         &self.slots[..self.count]
     }
 
     /// The frame waits last, or nothing changes where there is no room for it.
     pub(crate) fn push(&mut self, frame: Message) -> Result<(), QueueFull>
-        ensures waiting { self.new ≡ with_last frame self.old }
-        ensures told { is_ok result ≡ has_room self.old }
+        ensures waiting { queued self.new ≡ with_last (content frame) (queued self.old) }
+        ensures told { is_ok result ≡ has_room (queued self.old) }
     {
         if self.count == CAPACITY {
             return Err(QueueFull);
@@ -80,7 +66,7 @@ impl Queue {
 
     /// The oldest goes, if any.
     pub(crate) fn release(&mut self)
-        ensures { self.new ≡ drop 1 self.old }
+        ensures { queued self.new ≡ drop 1 (queued self.old) }
     {
         if self.count > 0 {
             // A blank in its place, so that one comes behind the others.

@@ -1,7 +1,8 @@
 //! A receiver: RECEIVE_DETECT, MESSAGE_HEADER_INFO, RxOneMore and the frames that wait.
 //! Stores the registers as they are written and shows the oldest frame as the receive buffer reads.
 ghost use Rattle.std.specs.Prelude.{◌≡◌, ◌≤◌, true, length, is_ok};
-ghost use Rattle.receiver.specs.Receiving.{at_power_on, is_waiting, released, after_hard_reset, keeping};
+ghost use Rattle.pd.specs.Messages.{content};
+ghost use Rattle.receiver.specs.Receiving.{receiving, at_power_on, is_waiting, released, after_hard_reset, keeping};
 ghost use Rattle.receiver.specs.Receiving.{with_detect, with_info, with_armed};
 ghost use Rattle.receiver.specs.Waiting.{shown_frame, shown_bytes, padded};
 ghost use Rattle.receiver.specs.Capacity.{capacity};
@@ -29,7 +30,7 @@ pub struct Receiver {
 
 impl Receiver {
     pub fn new() -> Receiver
-        ensures { result ≡ at_power_on }
+        ensures { receiving result ≡ at_power_on }
     {
         Receiver {
             detect: NONE_ENABLED,
@@ -41,55 +42,55 @@ impl Receiver {
 
     /// RECEIVE_DETECT.
     pub fn detect(&self) -> u8
-        ensures { result ≡ self.now.detect }
+        ensures { result ≡ (receiving self.now).detect }
     {
         self.detect
     }
 
     /// MESSAGE_HEADER_INFO.
     pub fn info(&self) -> u8
-        ensures { result ≡ self.now.info }
+        ensures { result ≡ (receiving self.now).info }
     {
         self.info
     }
 
     /// Whether a frame waits.
     pub fn has_waiting(&self) -> bool
-        ensures told { result ≡ is_waiting self.now }
-        ensures most { length self.now.frames ≤ capacity }
+        ensures told { result ≡ is_waiting (receiving self.now) }
+        ensures most { length (receiving self.now).frames ≤ capacity }
     {
         !self.frames.as_slice().is_empty()
     }
 
     pub fn set_detect(&mut self, value: u8)
-        ensures { self.new ≡ with_detect value self.old }
+        ensures { receiving self.new ≡ with_detect value (receiving self.old) }
     {
         self.detect = value;
     }
 
     pub fn set_info(&mut self, value: u8)
-        ensures { self.new ≡ with_info value self.old }
+        ensures { receiving self.new ≡ with_info value (receiving self.old) }
     {
         self.info = value;
     }
 
     /// Arms RxOneMore.
     pub fn arm(&mut self)
-        ensures { self.new ≡ with_armed true self.old }
+        ensures { receiving self.new ≡ with_armed true (receiving self.old) }
     {
         self.armed = true;
     }
 
     /// Lets go of the oldest frame, if any.
     pub fn release(&mut self)
-        ensures { self.new ≡ released self.old }
+        ensures { receiving self.new ≡ released (receiving self.old) }
     {
         self.frames.release();
     }
 
     /// What a Hard Reset, sent or heard, does to reception.
     pub fn reset(&mut self)
-        ensures { self.new ≡ after_hard_reset self.old }
+        ensures { receiving self.new ≡ after_hard_reset (receiving self.old) }
     {
         self.frames = Queue::new();
         self.detect = NONE_ENABLED;
@@ -98,14 +99,14 @@ impl Receiver {
 
     /// The frame waits last, or nothing changes where there is no room for it.
     pub fn keep(&mut self, frame: Message) -> Result<(), QueueFull>
-        ensures { record { after = self.new; waits = is_ok result } ≡ keeping frame self.old }
+        ensures { record { after = receiving self.new; waits = is_ok result } ≡ keeping (content frame) (receiving self.old) }
     {
         self.frames.push(frame)
     }
 
     /// Fills `buffer` with the receive buffer's first bytes.
     pub fn show(&self, buffer: &mut [u8])
-        ensures { buffer.new ≡ padded (length buffer.old) (shown_bytes self.now.frames) }
+        ensures { buffer.new ≡ padded (length buffer.old) (shown_bytes (receiving self.now).frames) }
     {
         match self.frames.as_slice() {
             [] => buffer.fill(0),
@@ -116,7 +117,7 @@ impl Receiver {
 
 /// A frame as it is read: how many bytes follow, its type, its bytes; then zeros.
 fn show_frame(buffer: &mut [u8], frame: &Message)
-    ensures { buffer.new ≡ padded (length buffer.old) (shown_frame frame.now) }
+    ensures { buffer.new ≡ padded (length buffer.old) (shown_frame (content frame.now)) }
 {
     let bytes = frame.bytes();
     fill_from(buffer, &[bytes.len() as u8 + 1, frame.kind().into()]);

@@ -2,7 +2,7 @@
 use Rattle.std.proofs.Common.{◌≡◌, ℕ, cond, List, Some, None, Option, arith}
 use lib.Bits.{bit_or, or_self}
 use Rattle.front_end.specs.declared.parts.Capabilities.{Capabilities}
-use Rattle.pd.specs.declared.message.Message.{Message}
+use Rattle.pd.specs.Messages.{Content}
 use Rattle.port.specs.View.{View}
 use Rattle.port.specs.Writes.{sent, alert_after}
 use Rattle.port.specs.declared.answer.Report.TheVariants.{CcLevels, Vbus, Fault}
@@ -24,12 +24,12 @@ Stands bits before after = bit_or after (word_without bits before) ≡ after
 abbrev left : Asked → ℕ → ℕ
 left w a = cond (word_at 0x10 w) (word_without (value w) a) a
 
-undiscarded : (w : Asked) (frames : List Message) (a : ℕ) → Stands (clears w) a (alert_after w None frames (left w a))
+undiscarded : (w : Asked) (frames : List Content) (a : ℕ) → Stands (clears w) a (alert_after w None frames (left w a))
 undiscarded (byte register v stray) frames a = grind (arith, or_self, own_bits)
 undiscarded (word register v) frames a = grind (arith, or_self, own_bits, with_more)
 undiscarded (append bytes) frames a = own_bits a 65535
 
-written_stands : (w : Asked) (e : Option End) (frames : List Message) (a : ℕ) → Stands (clears w) a (alert_after w e frames (left w a))
+written_stands : (w : Asked) (e : Option End) (frames : List Content) (a : ℕ) → Stands (clears w) a (alert_after w e frames (left w a))
 written_stands w None frames a = undiscarded w frames a
 written_stands w (Some e) frames a = with_more (alert_after w None frames (left w a)) (word_without (clears w) a) 0x20 (undiscarded w frames a)
 

@@ -9,9 +9,8 @@ use Rattle.port.specs.View.{View}
 use Rattle.port.specs.declared.answer.Answer.{Answer}
 use Rattle.port.specs.declared.answer.Disposition.{Disposition}
 use Rattle.port.specs.declared.answer.Disposition.TheVariants.{Taken, Ignored}
+use Rattle.sender.specs.Sendings as sender
 use Rattle.sender.specs.declared.sender.End.{End}
-use Rattle.sender.specs.declared.sender.State.{State}
-use Rattle.sender.specs.declared.sender.State.TheVariants as state
 use Rattle.transfer.specs.Refusals.{refusal_number}
 use Rattle.transfer.specs.declared.refusal.Refusal.{Refusal}
 
@@ -58,11 +57,11 @@ pub record Agrees (e : Entry) (a : Result Answer Refusal) : Type 0 where
 -- ---- what is held
 
 -- what the sender holds of the sending under way: the starts are the line's
-abbrev pub held : Under → State
-held none = state.Idle
-held (starting s retries starts left) = state.Starting s retries left
-held (waiting s retries starts left) = state.Waiting s retries left
-held (signalling s left) = state.Signalling s left
+abbrev pub held : Under → sender.Under
+held none = sender.none
+held (starting s retries starts left) = sender.starting s retries left
+held (waiting s retries starts left) = sender.waiting s retries left
+held (signalling s left) = sender.signalling s left
 
 -- what the line shows of it: type, bytes and starts
 abbrev pub on_the_line : Under → Carried

@@ -4,3 +4,4 @@ pub mod Sendings
 pub mod Append
 pub mod Transmit
 pub mod Life
+pub mod Same

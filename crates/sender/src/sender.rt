@@ -4,7 +4,7 @@ ghost use Rattle.std.specs.Prelude.{◌≡◌, ◌≤◌, [], length};
 ghost use Rattle.pd.specs.Lengths.{longest};
 ghost use Rattle.transfer.specs.Refusals.{first_holding, refused_or};
 ghost use Rattle.sender.specs.Append.{append_rows, appending};
-ghost use Rattle.sender.specs.Sendings.{at_power_on, with_buffer, discarding};
+ghost use Rattle.sender.specs.Sendings.{sending_of, at_power_on, with_buffer, discarding};
 ghost use Rattle.sender.specs.Sendings.{is_under_way, reset_under_way, hard_reset_under_way};
 
 mod acceptance;
@@ -12,7 +12,6 @@ mod life;
 
 pub use life::{Course, Event};
 use pd::{Bytes, Kind, Message};
-use std::marker::Model;
 use std::{fmt, mem};
 use transfer::Refusal;
 
@@ -66,38 +65,15 @@ pub struct Accepted {
     pub ended: Option<End>,
 }
 
-// The fields as they are. It stands so that a caller may hand the value to generic code: no proof follows that for a
-// struct in which an enum holds one with a model, as `Message` does, unless it has a model itself.
-impl Model for Accepted {
-    ghost use Rattle.sender.specs.Transmit.{Acceptance};
-
-    ghost Value = { Acceptance };
-
-    ghost view = { λ a. record { started = a.started; ended = a.ended } };
-
-    ghost inverse = { λ a. record { started = a.started; ended = a.ended } };
-}
-
 #[derive(Clone, Copy)]
 pub struct Sender {
     buffer: Bytes,
     under: State,
 }
 
-// The fields as they are, for the same reason.
-impl Model for Sender {
-    ghost use Rattle.sender.specs.Sendings.{Sending};
-
-    ghost Value = { Sending };
-
-    ghost view = { λ s. record { buffer = s.buffer; under = s.under } };
-
-    ghost inverse = { λ s. record { buffer = s.buffer; under = s.under } };
-}
-
 impl Sender {
     pub fn new() -> Sender
-        ensures { result ≡ at_power_on }
+        ensures { sending_of result ≡ at_power_on }
     {
         Sender {
             buffer: Bytes::new(),
@@ -107,8 +83,8 @@ impl Sender {
 
     /// Whether so many bytes more fit into the transmit buffer.
     pub fn room_for(&self, count: usize) -> Result<(), Refusal>
-        ensures judged { result ≡ refused_or (first_holding (append_rows (length self.now.buffer) count)) tt }
-        ensures most { length self.now.buffer ≤ longest }
+        ensures judged { result ≡ refused_or (first_holding (append_rows (length (sending_of self.now).buffer) count)) tt }
+        ensures most { length (sending_of self.now).buffer ≤ longest }
     {
         if self.buffer.has_room_for(count) {
             Ok(())
@@ -119,7 +95,7 @@ impl Sender {
 
     /// Appends to the transmit buffer, all bytes or none.
     pub fn append(&mut self, bytes: &[u8]) -> Result<(), Refusal>
-        ensures { record { after = self.new; answer = result } ≡ appending bytes.now self.old }
+        ensures { record { after = sending_of self.new; answer = result } ≡ appending bytes.now (sending_of self.old) }
     {
         self.buffer
             .append(bytes)
@@ -128,14 +104,14 @@ impl Sender {
 
     /// Empties the transmit buffer.
     pub fn empty(&mut self)
-        ensures { self.new ≡ with_buffer [] self.old }
+        ensures { sending_of self.new ≡ with_buffer [] (sending_of self.old) }
     {
         self.buffer = Bytes::new();
     }
 
     /// Ends whatever is under way.
     pub(crate) fn discard(&mut self) -> Option<End>
-        ensures { record { after = self.new; ended = result } ≡ discarding self.old }
+        ensures { record { after = sending_of self.new; ended = result } ≡ discarding (sending_of self.old) }
     {
         match mem::replace(&mut self.under, State::Idle) {
             State::Idle => None,
@@ -144,20 +120,20 @@ impl Sender {
     }
 
     fn is_under_way(&self) -> bool
-        ensures { result ≡ is_under_way self.now.under }
+        ensures { result ≡ is_under_way (sending_of self.now).under }
     {
         !matches!(self.under, State::Idle)
     }
 
     /// Whether a reset is being signalled.
     pub(crate) fn is_resetting(&self) -> bool
-        ensures { result ≡ reset_under_way self.now.under }
+        ensures { result ≡ reset_under_way (sending_of self.now).under }
     {
         matches!(self.under, State::Signalling { .. })
     }
 
     pub(crate) fn hard_reset_under_way(&self) -> bool
-        ensures { result ≡ hard_reset_under_way self.now.under }
+        ensures { result ≡ hard_reset_under_way (sending_of self.now).under }
     {
         matches!(&self.under, State::Signalling { sent, .. } if sent.kind() == Kind::HardReset)
     }

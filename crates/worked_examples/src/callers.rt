@@ -2,11 +2,13 @@
 use front_end::{FrontEnd, Path};
 use pd::{Kind, Message};
 use port::{Identifiers, Port};
+use receiver::Receiver;
 use registers::{Effect, Front, Registers};
 use relay_board::RelayBoard;
 use sender::Sender;
 use sink_board::SinkBoard;
 use std::mem;
+use std::test::Fail;
 use transfer::address;
 
 const IDENTIFIERS: Identifiers = Identifiers {
@@ -69,4 +71,66 @@ fn a_sender_is_handed_on_and_kept(rt: HostRuntime) {
     let earlier = mem::replace(&mut last, sender.transmit(0x05, false));
     assert!(rt; earlier.ended.is_none());
     assert!(rt; last.ended.is_some());
+}
+
+/// A message is passed by value as often as wanted, alone and in an `Option`.
+#[test]
+fn a_message_is_passed_on_again(rt: HostRuntime) -> Result<(), Fail> {
+    let mut receiver = Receiver::new();
+    let found = Message::arrived(0, &[0xA6, 0x03]);
+    let (first, second) = (found, found);
+    assert!(rt; first.is_some());
+    let Some(frame) = second else {
+        return Err(Fail::new("two bytes of type 0 are in range"));
+    };
+    assert!(rt; receiver.keep(frame).is_ok());
+    assert!(rt; receiver.keep(frame).is_ok());
+    let ([_, third], (_, fourth)) = ([frame, frame], (frame, frame));
+    assert!(rt; receiver.keep(third).is_err());
+    assert!(rt; fourth.bytes() == [0xA6, 0x03].as_slice());
+    Ok(())
+}
+
+fn released(mut receiver: Receiver) -> Receiver {
+    receiver.release();
+    receiver
+}
+
+/// A receiver is passed on by value and kept as well.
+#[test]
+fn a_receiver_is_handed_on_and_kept(rt: HostRuntime) {
+    let mut receiver = Receiver::new();
+    assert!(rt; receiver.keep(Message::without_bytes(Kind::Sop)).is_ok());
+    let (other, kept) = (released(receiver), receiver);
+    assert!(rt; !other.has_waiting());
+    assert!(rt; kept.has_waiting());
+}
+
+/// What a caller keeps of its own.
+#[derive(Drop)]
+enum Slot {
+    Empty,
+    Full { held: Message, count: u8 },
+}
+
+fn emptied_slot(slot: &mut Slot) -> Option<Message> {
+    if let &mut Slot::Full { held, count: 1.. } = slot {
+        *slot = Slot::Empty;
+        return Some(held);
+    }
+    None
+}
+
+/// A message is bound by value out of an enum that a caller lends, and messages lie in a list behind an index.
+#[test]
+fn a_message_is_taken_out_of_what_is_lent(rt: HostRuntime) {
+    let held = Message::without_bytes(Kind::CableReset);
+    let mut slot = Slot::Full { held, count: 1 };
+    let taken = emptied_slot(&mut slot);
+    assert!(rt; taken.is_some());
+    assert!(rt; emptied_slot(&mut slot).is_none());
+    let mut sender = Sender::new();
+    let told = [sender.transmit(0x05, false), sender.transmit(0x05, false)];
+    assert!(rt; told[0].ended.is_none());
+    assert!(rt; told[1].ended.is_some());
 }

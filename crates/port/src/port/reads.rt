@@ -22,6 +22,7 @@ impl<F: FrontEnd> Port<F> {
     }
 
     /// Shows the bytes wanted, or refuses and leaves the buffer.
+    #[tactic(auto, using(crate::proofs::Cases::refused_or_cases))]
     fn show(&self, register: u8, wanted: usize, buffer: &mut [u8]) -> Result<usize, Refusal>
         ensures answer { result ≡ refused_or (read_refusal register wanted buffer.old) wanted }
         ensures buffer { buffer.new ≡ filled (read_refusal register wanted buffer.old) (shown F.CAPABILITIES (view F.meaning self.now) register wanted) wanted buffer.old }

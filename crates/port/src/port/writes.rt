@@ -1,6 +1,7 @@
 //! A write transfer: decoded, judged, and only then acted on.
 //! Judging alters nothing; acting refuses nothing.
 ghost use Rattle.std.specs.Prelude.{◌≡◌, false, None};
+ghost use Rattle.pd.specs.Messages.{contents};
 ghost use Rattle.port.specs.View.{view};
 ghost use Rattle.sender.specs.Transmit.{transmit_rows};
 ghost use Rattle.port.specs.Steps.{obeyed, reset_by, on_line_after, discard_noted, without_end, reacted, acted, write_unsettled};
@@ -64,7 +65,7 @@ impl<F: FrontEnd> Port<F> {
     }
 
     fn put_on_line(&mut self, started: Option<Message>)
-        ensures { view F.meaning self.new ≡ on_line_after started (view F.meaning self.old) }
+        ensures { view F.meaning self.new ≡ on_line_after (contents started) (view F.meaning self.old) }
     {
         if let Some(message) = started {
             self.front.send(&message);

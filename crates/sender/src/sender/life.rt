@@ -1,7 +1,9 @@
 //! The life of a sending: a Tick passes, the line has finished, or a GoodCRC came.
 //! Tells what became of the sending; what the front end is to do follows from that.
 ghost use Rattle.std.specs.Prelude.{◌≡◌, ◌-◌, ◌<◌, Some};
+ghost use Rattle.pd.specs.Messages.{content};
 ghost use Rattle.sender.specs.Life.{acknowledges, moved, happening};
+ghost use Rattle.sender.specs.Sendings.{sending_of, none};
 
 use crate::sender::{End, START_TICKS, Sender, State, WAIT_TICKS};
 use pd::{Kind, Message};
@@ -34,14 +36,14 @@ fn goes_on(left: &mut u8) -> Option<Course>
 }
 
 fn acknowledges(kind: Kind, id: u8, message: &Message) -> bool
-    ensures { result ≡ acknowledges kind id message.now }
+    ensures { result ≡ acknowledges kind id (content message.now) }
 {
     kind == message.kind() && id == message.header().message_id()
 }
 
 impl Sender {
     fn end(&mut self, end: End) -> Option<Course>
-        ensures { record { after = self.new; course = result } ≡ moved State.Idle (Some (Course.Ended end)) self.old }
+        ensures { record { after = sending_of self.new; course = result } ≡ moved none (Some (Course.Ended end)) (sending_of self.old) }
     {
         self.under = State::Idle;
         Some(Course::Ended(end))
@@ -49,7 +51,7 @@ impl Sender {
 
     /// What an event makes of the sending under way; nothing where there is none that it concerns.
     pub fn happen(&mut self, event: Event) -> Option<Course>
-        ensures { record { after = self.new; course = result } ≡ happening event self.old }
+        ensures { record { after = sending_of self.new; course = result } ≡ happening event (sending_of self.old) }
     {
         match (&mut self.under, event) {
             // An arm each: no proof follows one `left` lent out of three states.

@@ -1,0 +1,42 @@
+-- Receivers that hold the same are equal: nothing of one lies outside of what is read of it. Assumes nothing.
+use Rattle.std.specs.Prelude.{◌≡◌, List, [], ◌∷◌, map, length}
+use Rattle.std.proofs.Common.{refl, ap, sym, ◌∙◌}
+use Rattle.std.proofs.Props.{props}
+use mathlib.Core.HLevel.{is_prop→PathP}
+use Rattle.pd.specs.Messages.{content, same_message}
+use Rattle.pd.specs.Room.{HasRoom, laid, same_len, same_room}
+use Rattle.pd.specs.declared.message.Message.{Message}
+use Rattle.receiver.specs.Capacity.{capacity}
+use Rattle.receiver.specs.Receiving.{receiving}
+use Rattle.receiver.specs.Slots.{blank}
+use Rattle.receiver.specs.Waiting.{queued}
+use Rattle.receiver.specs.declared.queue.Queue.{Queue}
+use Rattle.receiver.specs.declared.receiver.Receiver.{Receiver}
+
+same_messages : (xs ys : List Message) → map content xs ≡ map content ys → xs ≡ ys
+same_messages [] [] h = refl
+same_messages [] (y ∷ ys) h = cc
+same_messages (x ∷ xs) [] h = cc
+same_messages (x ∷ xs) (y ∷ ys) h =
+    let first : content x ≡ content y = cc in
+    let later : map content xs ≡ map content ys = cc in
+    λ i. same_message x y first i ∷ same_messages xs ys later i
+
+pub same_queue : (a b : Queue) → queued a ≡ queued b → a ≡ b
+same_queue a b h =
+    let m = same_messages _ _ h in
+    let c = sym (same_len a.count a.slots a.laid_out) ∙ ap length m ∙ same_len b.count b.slots b.laid_out in
+    let s = sym (same_room capacity blank a.count a.slots a.laid_out) ∙ ap (laid capacity blank) m ∙ same_room capacity blank b.count b.slots b.laid_out in
+    λ i. record {
+      count = c i;
+      slots = s i;
+      laid_out = is_prop→PathP (λ j. HasRoom capacity blank (c j) (s j)) (λ j. hlevel props) a.laid_out b.laid_out i;
+    }
+
+pub same_receiver : (a b : Receiver) → receiving a ≡ receiving b → a ≡ b
+same_receiver a b h = λ i. record {
+  detect = (h i).detect;
+  info = (h i).info;
+  armed = (h i).armed;
+  frames = same_queue a.frames b.frames (ap (λ r. r.frames) h) i;
+}
