@@ -21,6 +21,7 @@ same_bytes a b h =
       laid_out = is_prop→PathP (λ j. HasRoom longest 0 (l j) (r j)) (λ j. hlevel props) a.laid_out b.laid_out i;
     }
 
+-- none is held
 pub no_bytes_laid_out : HasRoom {A = ℕ} longest 0 0 (replicate longest 0)
 no_bytes_laid_out = record { fits = omega arith; whole = refl; blank = refl }
 

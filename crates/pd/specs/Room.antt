@@ -1,4 +1,4 @@
--- How a list lies in an array that is longer: from its beginning on, with blanks behind it. Assumes nothing.
+-- How a list lies in an array that it need not fill: from its beginning on, with blanks behind it. Assumes nothing.
 use Rattle.std.specs.Prelude.{◌≡◌, ℕ, ◌-◌, ◌≤◌, List, ◌++◌, length, take, drop, replicate}
 use Rattle.std.proofs.Common.{take-append-drop, length-take-le, arith, ap, sym, ◌∙◌}
 

@@ -85,7 +85,7 @@ alert_after w ended frames alert =
 -- what is on the line
 abbrev pub line_after : Option Content → Carried → Carried
 line_after None line = line
-line_after (Some m) line = started m
+line_after (Some c) line = started c
 
 -- RxOneMore: armed by AAh, disarmed by a Hard Reset
 abbrev pub arms : Option Effect → Bool → Bool

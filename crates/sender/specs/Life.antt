@@ -14,14 +14,14 @@ use Rattle.sender.specs.declared.sender.life.Event.TheVariants.{Tick, LineFinish
 
 -- a GoodCRC of this kind and MessageID is that of a message
 abbrev pub acknowledges : Kind → ℕ → Content → Bool
-acknowledges k id m = number_of k == number_of m.kind && id == message_id (header m.bytes)
+acknowledges k id c = number_of k == number_of c.kind && id == message_id (header c.bytes)
 
 -- a message in its wait waits for this GoodCRC
 abbrev pub awaits : Under → Kind → ℕ → Bool
 awaits none k id = false
-awaits (starting m retries left) k id = false
-awaits (waiting m retries left) k id = acknowledges k id m
-awaits (signalling m left) k id = false
+awaits (starting c retries left) k id = false
+awaits (waiting c retries left) k id = acknowledges k id c
+awaits (signalling c left) k id = false
 
 -- a Tick of a message's span: of its last, the message is started again while retries are left
 abbrev pub tick_of_message : ℕ → ℕ → Course
@@ -30,16 +30,16 @@ tick_of_message retries left = cond (nat_lt 1 left) GoesOn (cond (retries == 0) 
 -- what becomes of a sending by a Tick
 abbrev pub by_tick : Under → Option Course
 by_tick none = None
-by_tick (starting m retries left) = Some (tick_of_message retries left)
-by_tick (waiting m retries left) = Some (tick_of_message retries left)
-by_tick (signalling m left) = Some (cond (nat_lt 1 left) GoesOn (Ended Failed))
+by_tick (starting c retries left) = Some (tick_of_message retries left)
+by_tick (waiting c retries left) = Some (tick_of_message retries left)
+by_tick (signalling c left) = Some (cond (nat_lt 1 left) GoesOn (Ended Failed))
 
 -- by Line Finished: a start goes over into the wait, a reset is signalled
 abbrev pub by_line_finished : Under → Option Course
 by_line_finished none = None
-by_line_finished (starting m retries left) = Some GoesOn
-by_line_finished (waiting m retries left) = None
-by_line_finished (signalling m left) = Some (Ended Signalled)
+by_line_finished (starting c retries left) = Some GoesOn
+by_line_finished (waiting c retries left) = None
+by_line_finished (signalling c left) = Some (Ended Signalled)
 
 -- by any event; nothing where it concerns none
 abbrev pub course : Under → Event → Option Course
@@ -50,23 +50,23 @@ course under (GoodCrc k id) = cond (awaits under k id) (Some (Ended Succeeded)) 
 -- one Tick less of the span
 abbrev pub a_tick_later : Under → Under
 a_tick_later none = none
-a_tick_later (starting m retries left) = starting m retries (left - 1)
-a_tick_later (waiting m retries left) = waiting m retries (left - 1)
-a_tick_later (signalling m left) = signalling m (left - 1)
+a_tick_later (starting c retries left) = starting c retries (left - 1)
+a_tick_later (waiting c retries left) = waiting c retries (left - 1)
+a_tick_later (signalling c left) = signalling c (left - 1)
 
 -- a new start, with a retry less
 abbrev pub started_again : Under → Under
 started_again none = none
-started_again (starting m retries left) = starting m (retries - 1) start_span
-started_again (waiting m retries left) = starting m (retries - 1) start_span
-started_again (signalling m left) = signalling m left
+started_again (starting c retries left) = starting c (retries - 1) start_span
+started_again (waiting c retries left) = starting c (retries - 1) start_span
+started_again (signalling c left) = signalling c left
 
 -- the wait for a GoodCRC
 abbrev pub waiting_now : Under → Under
 waiting_now none = none
-waiting_now (starting m retries left) = waiting m retries wait_span
-waiting_now (waiting m retries left) = waiting m retries left
-waiting_now (signalling m left) = signalling m left
+waiting_now (starting c retries left) = waiting c retries wait_span
+waiting_now (waiting c retries left) = waiting c retries left
+waiting_now (signalling c left) = signalling c left
 
 -- a sending that goes on is a Tick further, or in its wait
 abbrev pub gone_on : Event → Under → Under

@@ -42,23 +42,23 @@ with_under under s = record s { under = under }
 
 abbrev pub is_under_way : Under → Bool
 is_under_way none = false
-is_under_way (starting m retries left) = true
-is_under_way (waiting m retries left) = true
-is_under_way (signalling m left) = true
+is_under_way (starting c retries left) = true
+is_under_way (waiting c retries left) = true
+is_under_way (signalling c left) = true
 
 -- a Hard Reset or a Cable Reset is being signalled
 abbrev pub reset_under_way : Under → Bool
 reset_under_way none = false
-reset_under_way (starting m retries left) = false
-reset_under_way (waiting m retries left) = false
-reset_under_way (signalling m left) = true
+reset_under_way (starting c retries left) = false
+reset_under_way (waiting c retries left) = false
+reset_under_way (signalling c left) = true
 
 -- a Hard Reset is being signalled
 abbrev pub hard_reset_under_way : Under → Bool
 hard_reset_under_way none = false
-hard_reset_under_way (starting m retries left) = false
-hard_reset_under_way (waiting m retries left) = false
-hard_reset_under_way (signalling m left) = is_hard_reset (number_of m.kind)
+hard_reset_under_way (starting c retries left) = false
+hard_reset_under_way (waiting c retries left) = false
+hard_reset_under_way (signalling c left) = is_hard_reset (number_of c.kind)
 
 -- what a sender holds after a sending was ended from outside, and how it ended
 pub record Discarding : Type 0 where

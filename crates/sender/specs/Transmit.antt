@@ -47,7 +47,7 @@ accepted k buffer = record { kind = k; bytes = cond (is_message (number_of k)) b
 
 -- a sending with its first span before it
 abbrev pub begun : Content → ℕ → Under
-begun m retries = cond (is_message (number_of m.kind)) (starting m retries start_span) (signalling m signalling_span)
+begun c retries = cond (is_message (number_of c.kind)) (starting c retries start_span) (signalling c signalling_span)
 
 -- whether what is accepted is discarded at once; a Hard Reset never is
 abbrev pub is_discarded : Kind → Bool → Bool
