@@ -21,3 +21,8 @@ same_room size empty count room h =
     ap (λ n. take count room ++ replicate (size - n) empty) (same_len count room h) ∙
     ap (λ ys. take count room ++ ys) (sym h.blank) ∙
     take-append-drop count room
+
+-- so what is read out of two arrays alike tells that they are alike
+pub same_laid : {A : Type 0} (size : ℕ) (empty : A) (m n : ℕ) (xs ys : List A) → HasRoom size empty m xs → HasRoom size empty n ys → take m xs ≡ take n ys → (m ≡ n) × (xs ≡ ys)
+same_laid size empty m n xs ys g h e =
+    (sym (same_len m xs g) ∙ ap length e ∙ same_len n ys h, sym (same_room size empty m xs g) ∙ ap (laid size empty) e ∙ same_room size empty n ys h)

@@ -1,10 +1,10 @@
 -- Receivers that hold the same are equal: nothing of one lies outside of what is read of it. Assumes nothing.
-use Rattle.std.specs.Prelude.{◌≡◌, List, [], ◌∷◌, map, length}
-use Rattle.std.proofs.Common.{refl, ap, sym, ◌∙◌}
+use Rattle.std.specs.Prelude.{◌≡◌, List, [], ◌∷◌, map}
+use Rattle.std.proofs.Common.{refl, ap}
 use Rattle.std.proofs.Props.{props}
 use mathlib.Core.HLevel.{is_prop→PathP}
 use Rattle.pd.specs.Messages.{content, same_message}
-use Rattle.pd.specs.Room.{HasRoom, laid, same_len, same_room}
+use Rattle.pd.specs.Room.{HasRoom, same_laid}
 use Rattle.pd.specs.declared.message.Message.{Message}
 use Rattle.receiver.specs.Capacity.{capacity}
 use Rattle.receiver.specs.Receiving.{receiving}
@@ -24,13 +24,11 @@ same_messages (x ∷ xs) (y ∷ ys) h =
 
 pub same_queue : (a b : Queue) → queued a ≡ queued b → a ≡ b
 same_queue a b h =
-    let m = same_messages _ _ h in
-    let c = sym (same_len a.count a.slots a.laid_out) ∙ ap length m ∙ same_len b.count b.slots b.laid_out in
-    let s = sym (same_room capacity blank a.count a.slots a.laid_out) ∙ ap (laid capacity blank) m ∙ same_room capacity blank b.count b.slots b.laid_out in
+    let p = same_laid capacity blank a.count b.count a.slots b.slots a.laid_out b.laid_out (same_messages _ _ h) in
     λ i. record {
-      count = c i;
-      slots = s i;
-      laid_out = is_prop→PathP (λ j. HasRoom capacity blank (c j) (s j)) (λ j. hlevel props) a.laid_out b.laid_out i;
+      count = p.0 i;
+      slots = p.1 i;
+      laid_out = is_prop→PathP (λ j. HasRoom capacity blank (p.0 j) (p.1 j)) (λ j. hlevel props) a.laid_out b.laid_out i;
     }
 
 pub same_receiver : (a b : Receiver) → receiving a ≡ receiving b → a ≡ b

@@ -121,7 +121,7 @@ fn emptied_slot(slot: &mut Slot) -> Option<Message> {
     None
 }
 
-/// A message is bound by value out of an enum that a caller lends, and messages lie in a list behind an index.
+/// A message is bound by value out of an enum that a caller lends, and what a sender accepted is read behind an index.
 #[test]
 fn a_message_is_taken_out_of_what_is_lent(rt: HostRuntime) {
     let held = Message::without_bytes(Kind::CableReset);
