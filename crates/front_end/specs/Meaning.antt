@@ -3,6 +3,7 @@ use Rattle.std.specs.Prelude.{Bool, true, false, cond, ◌≡◌, ℕ, ◌+◌, 
 use Rattle.pd.specs.Messages.{Content, content}
 use Rattle.front_end.specs.Starts.{most_starts}
 use Rattle.front_end.specs.declared.line.OnLine.{OnLine}
+use Rattle.front_end.specs.declared.line.OnLineRef.{OnLineRef}
 use Rattle.front_end.specs.declared.parts.Capabilities.{Capabilities}
 use Rattle.front_end.specs.declared.parts.Path.{Path}
 use Rattle.front_end.specs.declared.parts.Path.TheVariants as path
@@ -70,10 +71,15 @@ abbrev pub again_line : Carried → Carried
 again_line idle = idle
 again_line (sending c starts) = sending c (min most_starts (starts + 1))
 
--- what an answer says of the line
+-- what an answer says of the line, its message owned
 abbrev pub on_line : Option OnLine → Carried
 on_line None = idle
 on_line (Some l) = sending (content l.message) l.starts
+
+-- the same, its message lent
+abbrev pub on_line_ref : Option OnLineRef → Carried
+on_line_ref None = idle
+on_line_ref (Some l) = sending (content l.message.now) l.starts
 
 -- each part anew, the others kept
 abbrev pub with_terminations : Terminations → Meaning → Meaning

@@ -2,11 +2,11 @@
 //! Each order alters its own part alone; no order is refused, and a question alters nothing.
 ghost use Rattle.std.specs.Prelude.{◌≡◌};
 ghost use Rattle.pd.specs.Messages.{content};
-ghost use Rattle.front_end.specs.Meaning.{Meaning, Graded, idle, started, again_line, on_line};
+ghost use Rattle.front_end.specs.Meaning.{Meaning, Graded, idle, started, again_line, on_line, on_line_ref};
 ghost use Rattle.front_end.specs.Meaning.{with_terminations, with_vconn, with_path, with_line};
 ghost use Rattle.front_end.specs.declared.parts.Capabilities.{Capabilities};
 
-use crate::line::OnLine;
+use crate::line::{OnLine, OnLineRef};
 use crate::parts::{Capabilities, Path, Terminations, Vconn};
 use pd::Message;
 
@@ -54,4 +54,10 @@ pub trait FrontEnd {
         ensures { on_line result ≡ (meaning self.now).line };
 
     ghost nondefault_source_implies_default_source: { Graded CAPABILITIES };
+}
+
+/// A front end that keeps the message on its line as such, and lends it to who reads it where it lies.
+pub trait LendsLine: FrontEnd {
+    fn on_line(&self) -> Option<OnLineRef<'_>>
+        ensures { on_line_ref result ≡ (Self.meaning self.now).line };
 }

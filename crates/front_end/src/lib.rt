@@ -7,6 +7,6 @@ mod line;
 mod parts;
 mod words;
 
-pub use face::FrontEnd;
-pub use line::{BoardLine, MOST_STARTS, OnLine, Starts};
+pub use face::{FrontEnd, LendsLine};
+pub use line::{BoardLine, MOST_STARTS, OnLine, OnLineRef, Starts};
 pub use parts::{Capabilities, Path, RpValue, Termination, Terminations, Vconn};

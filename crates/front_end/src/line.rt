@@ -2,7 +2,7 @@
 //! One line for every board, whatever the board counts: starts made, starts left.
 ghost use Rattle.std.specs.Prelude.{◌≡◌, ℕ, ◌+◌, min};
 ghost use Rattle.pd.specs.Messages.{content};
-ghost use Rattle.front_end.specs.Meaning.{idle, started, again_line, on_line};
+ghost use Rattle.front_end.specs.Meaning.{idle, started, again_line, on_line, on_line_ref};
 ghost use Rattle.front_end.specs.Lines.{carried};
 ghost use Rattle.front_end.specs.Starts.{most_starts};
 
@@ -15,6 +15,13 @@ pub const MOST_STARTS: u8 = 4;
 #[derive(Clone, Copy)]
 pub struct OnLine {
     pub message: Message,
+    pub starts: u8,
+}
+
+/// The same with its message lent, for who reads it where it lies.
+#[derive(Clone, Copy)]
+pub struct OnLineRef<'a> {
+    pub message: &'a Message,
     pub starts: u8,
 }
 
@@ -68,8 +75,19 @@ impl<S: Starts> BoardLine<S> {
         self.sending = None;
     }
 
+    /// What is on the line, lent.
+    pub fn on_line(&self) -> Option<OnLineRef<'_>>
+        ensures { on_line_ref result ≡ carried S.made self.now }
+    {
+        let (message, counted) = self.sending.as_ref()?;
+        Some(OnLineRef {
+            message,
+            starts: counted.made(),
+        })
+    }
+
     /// What is on the line, copied.
-    pub fn on_line(&self) -> Option<OnLine>
+    pub fn copied(&self) -> Option<OnLine>
         ensures { on_line result ≡ carried S.made self.now }
     {
         let (message, starts) = self.sending?;

@@ -1,6 +1,6 @@
 -- A message as what it holds, and which frames are in range and well-formed. Assumes nothing.
-use Rattle.std.specs.Prelude.{◌≡◌, ℕ, Bool, cond, ◌&&◌, List, [], length, Some, None, Option, nat_le, slice_index}
-use Rattle.std.proofs.Common.{ap}
+use Rattle.std.specs.Prelude.{◌≡◌, ℕ, Bool, cond, ◌&&◌, List, [], ◌∷◌, length, map, Some, None, Option, nat_le, slice_index}
+use Rattle.std.proofs.Common.{refl, ap}
 use Rattle.pd.specs.declared.header.Header.{Header}
 use Rattle.pd.specs.declared.kind.Kind.{Kind}
 use Rattle.pd.specs.declared.message.Message.{Message}
@@ -20,9 +20,25 @@ abbrev pub contents : Option Message → Option Content
 contents None = None
 contents (Some m) = Some (content m)
 
--- messages of equal contents are equal
+-- messages of equal contents are equal, alone, where one may be missing, and in a list
 pub same_message : (a b : Message) → content a ≡ content b → a ≡ b
 same_message a b h = λ i. record { kind = (h i).kind; bytes = same_bytes a.bytes b.bytes (ap (λ c. c.bytes) h) i }
+
+pub same_option : (a b : Option Message) → contents a ≡ contents b → a ≡ b
+same_option None None h = refl
+same_option (Some x) (Some y) h =
+    let both : content x ≡ content y = cc in
+    ap Some (same_message x y both)
+same_option a b h = cc
+
+pub same_messages : (xs ys : List Message) → map content xs ≡ map content ys → xs ≡ ys
+same_messages [] [] h = refl
+same_messages [] (y ∷ ys) h = cc
+same_messages (x ∷ xs) [] h = cc
+same_messages (x ∷ xs) (y ∷ ys) h =
+    let first : content x ≡ content y = cc in
+    let later : map content xs ≡ map content ys = cc in
+    λ i. same_message x y first i ∷ same_messages xs ys later i
 
 -- a kind without bytes
 abbrev pub empty : Kind → Content

@@ -1,26 +1,16 @@
 -- Receivers that hold the same are equal: nothing of one lies outside of what is read of it. Assumes nothing.
-use Rattle.std.specs.Prelude.{◌≡◌, List, [], ◌∷◌, map}
-use Rattle.std.proofs.Common.{refl, ap}
+use Rattle.std.specs.Prelude.{◌≡◌}
+use Rattle.std.proofs.Common.{ap}
 use Rattle.std.proofs.Props.{props}
 use mathlib.Core.HLevel.{is_prop→PathP}
-use Rattle.pd.specs.Messages.{content, same_message}
+use Rattle.pd.specs.Messages.{same_messages}
 use Rattle.pd.specs.Room.{HasRoom, same_laid}
-use Rattle.pd.specs.declared.message.Message.{Message}
 use Rattle.receiver.specs.Capacity.{capacity}
 use Rattle.receiver.specs.Receiving.{receiving}
 use Rattle.receiver.specs.Slots.{blank}
 use Rattle.receiver.specs.Waiting.{queued}
 use Rattle.receiver.specs.declared.queue.Queue.{Queue}
 use Rattle.receiver.specs.declared.receiver.Receiver.{Receiver}
-
-same_messages : (xs ys : List Message) → map content xs ≡ map content ys → xs ≡ ys
-same_messages [] [] h = refl
-same_messages [] (y ∷ ys) h = cc
-same_messages (x ∷ xs) [] h = cc
-same_messages (x ∷ xs) (y ∷ ys) h =
-    let first : content x ≡ content y = cc in
-    let later : map content xs ≡ map content ys = cc in
-    λ i. same_message x y first i ∷ same_messages xs ys later i
 
 pub same_queue : (a b : Queue) → queued a ≡ queued b → a ≡ b
 same_queue a b h =

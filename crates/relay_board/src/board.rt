@@ -9,7 +9,8 @@ use crate::pin::Pin;
 use crate::starts::Made;
 use crate::switches::RelaySwitches;
 use front_end::{
-    BoardLine, Capabilities, FrontEnd, OnLine, Path, RpValue, Termination, Terminations, Vconn,
+    BoardLine, Capabilities, FrontEnd, LendsLine, OnLine, OnLineRef, Path, RpValue, Termination,
+    Terminations, Vconn,
 };
 use pd::Message;
 
@@ -153,6 +154,12 @@ impl FrontEnd for RelayBoard {
     }
 
     fn line(&self) -> Option<OnLine> {
+        self.line.copied()
+    }
+}
+
+impl LendsLine for RelayBoard {
+    fn on_line(&self) -> Option<OnLineRef<'_>> {
         self.line.on_line()
     }
 }

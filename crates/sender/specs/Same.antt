@@ -1,9 +1,10 @@
--- Senders that hold the same are equal: nothing of one lies outside of what is read of it. Assumes nothing.
+-- Senders that hold the same are equal, and what they answer: nothing of it lies outside of what is read. Assumes nothing.
 use Rattle.std.specs.Prelude.{◌≡◌}
 use Rattle.std.proofs.Common.{refl, ap}
 use Rattle.pd.specs.Held.{same_bytes}
-use Rattle.pd.specs.Messages.{content, same_message}
+use Rattle.pd.specs.Messages.{content, contents, same_message, same_option}
 use Rattle.sender.specs.Sendings.{sending_of, under_of}
+use Rattle.sender.specs.declared.sender.Accepted.{Accepted}
 use Rattle.sender.specs.declared.sender.Sender.{Sender}
 use Rattle.sender.specs.declared.sender.State.{State}
 use Rattle.sender.specs.declared.sender.State.TheVariants.{Idle, Starting, Waiting, Signalling}
@@ -31,3 +32,6 @@ same_sender a b h = λ i. record {
   buffer = same_bytes a.buffer b.buffer (ap (λ s. s.buffer) h) i;
   under = same_state a.under b.under (ap (λ s. s.under) h) i;
 }
+
+pub same_accepted : (a b : Accepted) → contents a.started ≡ contents b.started → a.ended ≡ b.ended → a ≡ b
+same_accepted a b h k = λ i. record { started = same_option a.started b.started h i; ended = k i }

@@ -7,7 +7,9 @@ ghost use Rattle.std.proofs.Common.{rules};
 use crate::code;
 use crate::starts::Left;
 use crate::switches::SinkSwitches;
-use front_end::{BoardLine, Capabilities, FrontEnd, OnLine, Path, Terminations, Vconn};
+use front_end::{
+    BoardLine, Capabilities, FrontEnd, LendsLine, OnLine, OnLineRef, Path, Terminations, Vconn,
+};
 use pd::Message;
 
 #[derive(Drop)]
@@ -97,6 +99,12 @@ impl FrontEnd for SinkBoard {
     }
 
     fn line(&self) -> Option<OnLine> {
+        self.line.copied()
+    }
+}
+
+impl LendsLine for SinkBoard {
+    fn on_line(&self) -> Option<OnLineRef<'_>> {
         self.line.on_line()
     }
 }

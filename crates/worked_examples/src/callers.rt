@@ -1,5 +1,5 @@
 //! What a caller may do with the public types: each written once, so that it goes on to be proved.
-use front_end::{FrontEnd, Path};
+use front_end::{BoardLine, FrontEnd, LendsLine, MOST_STARTS, OnLineRef, Path, Starts};
 use pd::{Kind, Message};
 use port::{Identifiers, Port};
 use receiver::Receiver;
@@ -36,6 +36,81 @@ fn a_line_told_is_kept(rt: HostRuntime) {
     board.quiet();
     assert!(rt; before.is_some());
     assert!(rt; board.line().is_none());
+}
+
+/// The starts on the line of a board to come, counted up to the most.
+#[derive(Clone, Copy)]
+struct Counted {
+    count: u8,
+}
+
+impl Starts for Counted {
+    ghost made = { λ starts. starts.count };
+
+    fn first() -> Counted {
+        Counted { count: 1 }
+    }
+
+    fn again(self) -> Counted {
+        Counted {
+            count: MOST_STARTS.min(self.count.saturating_add(1)),
+        }
+    }
+
+    fn made(self) -> u8 {
+        self.count
+    }
+}
+
+fn message_on<S: Starts>(line: &BoardLine<S>) -> Option<&Message> {
+    Some(line.on_line()?.message)
+}
+
+/// The message on a line is read where it lies, for as long as the line is lent.
+#[test]
+fn a_line_lends_its_message(rt: HostRuntime) -> Result<(), Fail> {
+    let mut line: BoardLine<Counted> = BoardLine::new();
+    assert!(rt; message_on(&line).is_none());
+    line.send(&Message::without_bytes(Kind::CableReset));
+    line.again();
+    let Some(OnLineRef { message, starts }) = line.on_line() else {
+        return Err(Fail::new("a sending is on the line"));
+    };
+    assert!(rt; message.kind() == Kind::CableReset);
+    assert!(rt; starts == 2);
+    let Some(message) = message_on(&line) else {
+        return Err(Fail::new("its message is lent on"));
+    };
+    assert!(rt; message.kind() == Kind::CableReset);
+    let Some(kept) = line.copied() else {
+        return Err(Fail::new("it is copied as well"));
+    };
+    line.quiet();
+    assert!(rt; line.on_line().is_none());
+    assert!(rt; kept.starts == 2);
+    Ok(())
+}
+
+fn message_lent<F: LendsLine>(front: &F) -> Option<&Message> {
+    Some(front.on_line()?.message)
+}
+
+/// Each board lends the message on its line, for as long as the board is lent.
+#[test]
+fn each_board_lends_its_line(rt: HostRuntime) -> Result<(), Fail> {
+    let (mut relay, mut sink) = (RelayBoard::new(), SinkBoard::new());
+    relay.send(&Message::without_bytes(Kind::HardReset));
+    sink.send(&Message::without_bytes(Kind::CableReset));
+    let (Some(first), Some(second)) = (message_lent(&relay), message_lent(&sink)) else {
+        return Err(Fail::new("a sending is on each line"));
+    };
+    assert!(rt; first.kind() == Kind::HardReset);
+    assert!(rt; second.kind() == Kind::CableReset);
+    relay.quiet();
+    sink.quiet();
+    assert!(rt; message_lent(&relay).is_none());
+    assert!(rt; message_lent(&sink).is_none());
+    Ok(())
 }
 
 /// Any effect that a write may have is handed to the register file, which looks for its own.
